@@ -23,6 +23,7 @@ use Rattle.vs_backup.proofs.Calls.{runs_wider, spares_on}
 use Rattle.vs_backup.proofs.Following.{looks_narrowed, narrowed_now, narrowed_on, narrowed_starts}
 use Rattle.vs_backup.proofs.Frames.{holds_spared}
 use Rattle.vs_backup.proofs.Kept.{may_leave_now}
+use Rattle.vs_backup.proofs.Modes.{mode_narrowed, mode_spared}
 use Rattle.vs_backup.proofs.Copying.{content_held, kept_on, never_failed, never_refused}
 use Rattle.vs_backup.proofs.Others.{others_spared, others_looks, others_on, others_starts}
 use Rattle.vs_backup.proofs.Places.{places_keep, places_dropped}
@@ -103,6 +104,7 @@ module _ (copying keep : Bool) (name temporary backup : Name) (old new : List �
     moments = inl (begins (Err why) over);
     others = others (Err why) over;
     written = tt;
+    mode = tt;
     kept = λ keeps. tt;
     gone = λ goes. tt;
     aside = λ copies. tt;
@@ -120,6 +122,7 @@ module _ (copying keep : Bool) (name temporary backup : Name) (old new : List �
     moments = inl (begins (Ok size) over);
     others = others (Ok size) over;
     written = (over.written.0, over.written.1);
+    mode = over.mode;
     kept = λ keeps. over.written.2;
     gone = λ goes. absurd (true≢false (sym keeps ∙ goes));
     aside = λ copies. over.aside copies (never_failed size);
@@ -157,6 +160,7 @@ module _ (copying keep : Bool) (name temporary backup : Name) (old new : List �
         });
         others = others_spared on s0 s2 spares;
         written = (over.written.0, holds_spared (one_name backup) name (λ c. c ≡ new) s1.folder s2.folder differ drops.now holds);
+        mode = mode_spared (one_name backup) name s1.folder s2.folder differ drops.now ∙ over.mode;
         kept = λ keeps. absurd (true≢false (sym keeps ∙ goes));
         gone = λ goes none. gone none;
         aside = λ copies. gone_spared (one_name backup) temporary s1.folder s2.folder differ_backup drops.now (over.aside copies (never_failed size));
@@ -181,6 +185,7 @@ module _ (copying keep : Bool) (name temporary backup : Name) (old new : List �
     moments = inr (looked, refl);
     others = spared;
     written = tt;
+    mode = tt;
     kept = λ keeps. tt;
     gone = λ goes. tt;
     aside = λ copies. tt;
@@ -213,6 +218,7 @@ module _ (copying keep : Bool) (name temporary backup : Name) (old new : List �
     ];
     others = others_on (backed_names copying name temporary backup) s0 s1 s2 frame looked spared backed.others;
     written = backed.written;
+    mode = on_ok_weaker result (λ same. same ∙ mode_narrowed name s0.folder s1.folder (narrowed_now s0 s1 looked)) backed.mode;
     kept = backed.kept;
     gone = λ goes. gone_after result goes;
     aside = backed.aside;

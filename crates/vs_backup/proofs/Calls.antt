@@ -5,12 +5,12 @@ use Rattle.vs_host.specs.Disk.{Disk, Name, content_in}
 use Rattle.vs_host.specs.Trace.{Looked}
 use Rattle.vs_host.specs.World.{Scene, IsTold, ChangesFolder, ReadsFolder}
 use Rattle.std.specs.Prelude.{is_some, IsSome}
-use Rattle.vs_disk.specs.Images.{Changes, IsSynced}
+use Rattle.vs_disk.specs.Images.{IsSynced}
 use Rattle.vs_disk.specs.Runs.{Runs}
 use Rattle.vs_disk.proofs.Runs.{one_call, runs_as, runs_on, reads_change}
 use Rattle.vs_disk.proofs.Contents.{content_of_file}
 use Rattle.vs_backup.specs.Works.{ChangesOne, IsAlone, Spares, one_name}
-use Rattle.vs_backup.proofs.Frames.{spares_same, spares_then, spares_wider, spares_file}
+use Rattle.vs_backup.proofs.Frames.{spares_same, spares_then, spares_wider, spares_one}
 
 -- ---- calls on names
 module _ (on : Name → Type 0) where
@@ -25,7 +25,7 @@ runs_wider on wide s0 s1 leads runs = runs_as (Spares on) (Spares wide) s0 s1 (�
 
 -- calls on a file that no other name leads to
 pub runs_file : (name : Name) (s0 s1 : Scene) → IsAlone name s0.folder → Runs (ChangesOne name) s0 s1 → Runs (Spares (one_name name)) s0 s1
-runs_file name s0 s1 alone runs = runs_as (ChangesOne name) (Spares (one_name name)) s0 s1 (λ d changes. spares_file name Changes s0.folder d alone changes) runs
+runs_file name s0 s1 alone runs = runs_as (ChangesOne name) (Spares (one_name name)) s0 s1 (λ d changes. spares_one name s0.folder d alone changes) runs
 
 pub synced_there : (name : Name) (bytes : List ℕ) (disk : Disk) → IsSynced name bytes disk → IsSome (content_in disk name)
 synced_there name bytes disk synced =

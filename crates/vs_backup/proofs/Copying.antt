@@ -2,16 +2,16 @@
 use Rattle.std.proofs.Common.{◌≡◌, inl, inr, ℕ, Bool, true, List, [], Some, length, OnOk, OnErr, Result, Ok, Err, refl, sym, ◌∙◌, ap}
 use Rattle.std.specs.Prelude.{IsErrOf}
 use Rattle.vs_host.specs.File.{File, Cuts}
-use Rattle.vs_host.specs.Disk.{Disk, Name, content_in, ChangesFile, IsFolder}
+use Rattle.vs_host.specs.Disk.{Disk, Name, content_in, mode_in, ChangesFile, IsFolder}
 use Rattle.vs_host.specs.World.{Scene, ChangesFolder}
 use Rattle.vs_host.specs.declared.traits.Failed.{Failed}
-use Rattle.vs_disk.specs.Images.{Changes, HoldsBytes, IsSynced, MayLeave, Takes}
+use Rattle.vs_disk.specs.Images.{HoldsBytes, IsSynced, MayLeave, Takes}
 use Rattle.vs_disk.specs.Runs.{Runs}
 use Rattle.vs_disk.proofs.Steps.{same_at}
 use Rattle.vs_disk.proofs.Images.{read_image}
 use Rattle.vs_disk.proofs.Runs.{runs_as, runs_then}
 use Rattle.vs_disk.proofs.Contents.{file_of_content, content_of_file, holds_synced}
-use Rattle.vs_backup.specs.Works.{ChangesOne, Fills, IsAlone, IsGone, LeadsTo, Renews, Spares, one_name, two_names, three_names}
+use Rattle.vs_backup.specs.Works.{ChangesOne, IsAlone, IsGone, LeadsTo, Renews, Spares, Widens, one_name, two_names, three_names}
 use Rattle.vs_backup.specs.Writing.{IsFailed, IsKept, IsSettled, Places, Replaces, StartsOver, IsStartedOver, WritesOver, OldIn, backed_names, stopped, stopped_after}
 use Rattle.vs_backup.specs.declared.errors.Place.{Place}
 use Rattle.vs_backup.specs.declared.errors.Place.TheVariants as place
@@ -23,7 +23,8 @@ use Rattle.vs_backup.proofs.Frames.{alone_settled, holds_spared, synced_spared}
 use Rattle.vs_backup.proofs.Places.{in_place_spared, in_place_on}
 use Rattle.vs_backup.proofs.Renewing.{renews_gone}
 use Rattle.vs_backup.proofs.Replacing.{takes_on, takes_others, gone_changed}
-use Rattle.vs_backup.proofs.Kept.{kept_by_name, kept_by_backup, settled_holds, may_leave_now, may_leave_filled}
+use Rattle.vs_backup.proofs.Kept.{kept_by_name, kept_by_backup, settled_holds, may_leave_now}
+use Rattle.vs_backup.proofs.Modes.{mode_spared}
 
 -- a predicate that holds at each moment of two runs
 pub kept_on : (P : Disk → Type 0) (s0 s1 s2 : Scene) → ChangesFolder s0 s1 → Runs (λ a b. P b) s0 s1 → Runs (λ a b. P b) s1 s2 → Runs (λ a b. P b) s0 s2
@@ -59,6 +60,9 @@ module _ (name backup temporary : Name) (old : List ℕ) (s1 s2 : Scene) (differ
 
   pub over_replaced : Runs (Takes backup old) s1 s2
   over_replaced = takes_others (one_name name) backup old s1 s2 differ over_one
+
+  pub over_mode : mode_in s2.folder backup ≡ mode_in s1.folder backup
+  over_mode = mode_spared (one_name name) backup s1.folder s2.folder differ over_one.now
 
   pub over_backed : IsSettled backup old s2.folder
   over_backed = record {
@@ -134,13 +138,15 @@ module _ (name backup temporary : Name) (old new : List ℕ) (s0 s1 s2 : Scene) 
   backed : IsSettled backup old s2.folder
   backed = over_backed name backup temporary old s1 s2 differ started.backed folder [] started.empty runs
 
-  pub copying_done : (size : ℕ) → size ≡ length new → IsSynced name new s2.folder → IsGone temporary s1.folder → WritesOver true name temporary backup old new s0 s2 (Ok size)
-  copying_done size is synced aside = record {
+  pub copying_done : (size : ℕ) → size ≡ length new → IsSynced name new s2.folder → IsGone temporary s1.folder → mode_in s2.folder name ≡ mode_in s0.folder name
+      → WritesOver true name temporary backup old new s0 s2 (Ok size)
+  copying_done size is synced aside mode = record {
+    mode = mode;
     spares = all_spares;
     kept = all_kept;
     places = in_place_on name s0 s1 s2 frame over.in_place runs;
     replaced = all_replaced;
-    aside = λ copies calm. gone_changed temporary name Changes s1.folder s2.folder runs.now aside;
+    aside = λ copies calm. gone_changed temporary name s1.folder s2.folder runs.now aside;
     anew = λ copies. renews_gone temporary s0 s1 s2 frame over.anew name aside runs;
     written = (is, holds_synced name new s2.folder backed.pending synced, settled_holds backup old s2.folder backed);
     not_written = tt;
@@ -150,14 +156,15 @@ module _ (name backup temporary : Name) (old new : List ℕ) (s0 s1 s2 : Scene) 
   }
 
   -- the file was put back, or that failed
-  pub copying_stopped : (why : Stop) (back : Result (Unit {0}) Failed) → OnOk back (IsSynced name old s2.folder) → OnErr back (Fills name s1.folder s2.folder) → IsGone temporary s1.folder
+  pub copying_stopped : (why : Stop) (back : Result (Unit {0}) Failed) → OnOk back (IsSynced name old s2.folder) → OnErr back (Widens name s1.folder s2.folder) → IsGone temporary s1.folder
       → WritesOver true name temporary backup old new s0 s2 (Err (stopped_after why back))
-  copying_stopped why (Ok done) synced fills aside = record {
+  copying_stopped why (Ok done) synced widens aside = record {
+    mode = tt;
     spares = all_spares;
     kept = all_kept;
     places = in_place_on name s0 s1 s2 frame over.in_place runs;
     replaced = all_replaced;
-    aside = λ copies calm. gone_changed temporary name Changes s1.folder s2.folder runs.now aside;
+    aside = λ copies calm. gone_changed temporary name s1.folder s2.folder runs.now aside;
     anew = λ copies. renews_gone temporary s0 s1 s2 frame over.anew name aside runs;
     written = tt;
     not_written = inl (may_leave_held name old s2.folder (holds_synced name old s2.folder backed.pending synced));
@@ -165,17 +172,18 @@ module _ (name backup temporary : Name) (old new : List ℕ) (s0 s1 s2 : Scene) 
     in_backup = λ refused. absurd (never_other why place.File place.Backup (λ e. cc) refused);
     somewhere = (λ refused. never_other why place.File place.Nowhere (λ e. cc) refused, λ is. never_no_name why place.File is);
   }
-  copying_stopped why (Err failed) synced fills aside = record {
+  copying_stopped why (Err failed) synced widens aside = record {
+    mode = tt;
     spares = all_spares;
     kept = all_kept;
     places = in_place_on name s0 s1 s2 frame over.in_place runs;
     replaced = all_replaced;
-    aside = λ copies calm. gone_changed temporary name Changes s1.folder s2.folder runs.now aside;
+    aside = λ copies calm. gone_changed temporary name s1.folder s2.folder runs.now aside;
     anew = λ copies. renews_gone temporary s0 s1 s2 frame over.anew name aside runs;
     written = tt;
-    not_written = inl (may_leave_filled name old s1.folder s2.folder fills started.may_leave);
+    not_written = inl (widens (Some old) started.may_leave);
     in_file = λ refused. absurd (never_other why place.Backup place.File (λ e. cc) refused);
-    in_backup = λ refused some. (Some [], may_leave_filled name [] s1.folder s2.folder fills (may_leave_now name [] s1.folder started.empty), λ same. some refl (let is : [] ≡ old = cc in sym is));
+    in_backup = λ refused some. (Some [], widens (Some []) (may_leave_now name [] s1.folder started.empty), λ same. some refl (let is : [] ≡ old = cc in sym is));
     somewhere = (λ refused. never_other why place.Backup place.Nowhere (λ e. cc) refused, λ is. never_no_name why place.Backup is);
   }
 
@@ -186,6 +194,7 @@ pub over_not_begun : (copying : Bool) (name temporary backup : Name) (old new : 
 over_not_begun copying name temporary backup old new s0 s1 spares kept replaced places anew holds = record {
   spares = spares;
   kept = kept;
+  mode = tt;
   places = places;
   replaced = replaced;
   aside = λ copies calm. absurd (calm (place.File, refl));

@@ -1,5 +1,5 @@
 -- How a file grows piece by piece: what was written and what is still held are the bytes so far.
-use Rattle.std.proofs.Common.{◌≡◌, ℕ, ◌+◌, ◌*◌, ◌≤◌, List, [], ◌∷◌, ◌++◌, length, take, drop, Option, Some, None, OnOk, OnErr, Result, refl, sym, ◌∙◌, ap, subst, arith}
+use Rattle.std.proofs.Common.{◌≡◌, ℕ, ◌+◌, ◌*◌, ◌≤◌, List, [], ◌∷◌, ◌++◌, length, take, drop, Option, Some, None, inl, inr, refl, sym, ◌∙◌, ap, subst, arith}
 use Rattle.std.specs.Prelude.{IsSomeAnd}
 use Rattle.std.specs.List.{AllByRecursion}
 use Rattle.std.proofs.lemmas.List.Elements.{recursion_from_All}
@@ -10,17 +10,17 @@ use Rattle.vs_text.specs.declared.TheConstants.{MAX_LINE_BYTES}
 use Rattle.vs_text.proofs.FileForm.{length-file_of}
 use Rattle.vs_edit.specs.Splices.{HoldsLines}
 use Rattle.vs_host.specs.File.{File, Cuts, Writes, WritesSome, Syncs, put}
-use Rattle.vs_host.specs.Disk.{Disk, Name, ChangesFile, content_in}
-use Rattle.vs_host.specs.Trace.{Synced}
-use Rattle.vs_host.specs.World.{Scene, IsTold, ChangesFolder}
-use Rattle.vs_disk.specs.Images.{Changes, KeepsImages}
+use Rattle.vs_host.specs.Disk.{Disk, Mode, Name, ChangesFile, MayBeLike, content_in, like, names_at, names_of, read_under}
+use Rattle.vs_host.specs.World.{Scene, ChangesFolder}
+use Rattle.vs_disk.specs.Images.{IsSynced, KeepsImages, MayLeave}
 use Rattle.vs_disk.specs.Runs.{Runs, Looks}
 use Rattle.vs_disk.proofs.Steps.{same_file, file_then, file_as}
+use Rattle.vs_disk.proofs.Others.{image_same, mode_others}
 use Rattle.vs_disk.proofs.Images.{cut_keeps_images, write_keeps_images}
-use Rattle.vs_disk.proofs.Runs.{runs_as, runs_then, runs_on, call_on}
-use Rattle.vs_disk.proofs.Contents.{written_content, put_end}
-use Rattle.vs_backup.specs.Works.{Fills, ChangesOne}
-use Rattle.vs_backup.proofs.Frames.{either}
+use Rattle.vs_disk.proofs.Runs.{runs_as, runs_then, runs_on}
+use Rattle.vs_disk.proofs.Contents.{synced_content, written_content, put_end}
+use Rattle.vs_backup.specs.Works.{Fills, ChangesOne, Widens}
+use Rattle.vs_backup.proofs.Frames.{same_one}
 
 -- ---- the step of writes and cuts, and that of all calls on one file
 pub fills_none : (name : Name) (disk : Disk) → Fills name disk disk
@@ -39,16 +39,28 @@ pub fills_cut : (name : Name) (old new : Disk) → ChangesFile name (Cuts 0) old
 fills_cut name old new changes = file_as name (Cuts 0) KeepsImages (λ a b cuts. cut_keeps_images 0 a b (omega arith) cuts) old new changes
 
 pub changes_none : (name : Name) (disk : Disk) → ChangesOne name disk disk
-changes_none name disk = same_file name Changes (λ file. tt) disk
+changes_none name disk = record { synced = refl; pending = refl; others = λ number other. refl; modes = λ number other. refl }
 
 pub changes_then : (name : Name) (a b c : Disk) → ChangesOne name a b → ChangesOne name b c → ChangesOne name a c
-changes_then name a b c first second = file_then name Changes Changes Changes (λ x y z one two. tt) a b c first second
+changes_then name a b c first second =
+    let now : names_of b name ≡ names_of a name = same_one name a b first 0 name in
+    record {
+      synced = second.synced ∙ first.synced;
+      pending = second.pending ∙ first.pending;
+      others = λ number other. second.others number (λ is. other (sym now ∙ is)) ∙ first.others number other;
+      modes = λ number other. second.modes number (λ is. other (sym now ∙ is)) ∙ first.modes number other;
+    }
 
 pub changes_same : (name : Name) (old new : Disk) → new ≡ old → ChangesOne name old new
 changes_same name old new is = subst (λ (d : Disk). ChangesOne name old d) (sym is) (changes_none name old)
 
 pub changes_by : (name : Name) (step : File → File → Type 0) (old new : Disk) → ChangesFile name step old new → ChangesOne name old new
-changes_by name step old new changes = file_as name step Changes (λ a b is. tt) old new changes
+changes_by name step old new changes = record {
+  synced = changes.synced;
+  pending = changes.pending;
+  others = changes.others;
+  modes = λ number other. ap (λ (f : ℕ → Mode). f number) changes.modes;
+}
 
 pub fills_changes : (name : Name) (s0 s1 : Scene) → Runs (Fills name) s0 s1 → Runs (ChangesOne name) s0 s1
 fills_changes name s0 s1 runs = runs_as (Fills name) (ChangesOne name) s0 s1 (λ d fills. changes_by name KeepsImages s0.folder d fills) runs
@@ -71,15 +83,38 @@ looks_fills name s0 s1 looks = runs_as (λ a b. b ≡ a) (Fills name) s0 s1 (λ 
 pub looks_changes : (name : Name) (s0 s1 : Scene) → Looks s0 s1 → Runs (ChangesOne name) s0 s1
 looks_changes name s0 s1 looks = runs_as (λ a b. b ≡ a) (ChangesOne name) s0 s1 (λ d same. changes_same name s0.folder d same) looks
 
--- a sync of the file after such a run
-pub sync_changes : {T E : Type 0} (name : Name) (told : Type 0) (result : Result T E) (s0 s1 s2 : Scene) → told → ChangesFolder s0 s1 → Runs (ChangesOne name) s0 s1
-    → OnOk result (told → ChangesFile name Syncs s1.folder s2.folder) → OnErr result (s2.folder ≡ s1.folder) → ChangesFolder s1 s2 → IsTold Synced (name ∷ []) result s1 s2
-    → Runs (ChangesOne name) s0 s2
-sync_changes name told result s0 s1 s2 is frame first ok err framed told_of =
-    let here : ChangesOne name s1.folder s2.folder =
-    either (told → ChangesFile name Syncs s1.folder s2.folder) (s2.folder ≡ s1.folder) (ChangesOne name s1.folder s2.folder) result ok err
-    (λ syncs. changes_by name Syncs s1.folder s2.folder (syncs is)) (λ same. changes_same name s1.folder s2.folder same) in
-    call_on (ChangesOne name) (changes_then name) Synced (name ∷ []) result s0 s1 s2 frame first framed here told_of
+-- ---- a sync of the file, which may take the mode of another one
+pub changes_like : (model name : Name) (disk : Disk) → ChangesOne name disk (like model name disk)
+changes_like model name disk = record {
+  synced = refl;
+  pending = refl;
+  others = λ number other. refl;
+  modes = λ number other. mode_others (names_of disk model) (names_of disk name) disk.modes number other;
+}
+
+pub changes_liked : (model name : Name) (old new : Disk) → ChangesFile name Syncs (like model name old) new → ChangesOne name old new
+changes_liked model name old new changes =
+    changes_then name old (like model name old) new (changes_like model name old) (changes_by name Syncs (like model name old) new changes)
+
+pub changes_maybe : (model name : Name) (old new : Disk) → MayBeLike model name old new → ChangesOne name old new
+changes_maybe model name old new (inl same) = changes_same name old new same
+changes_maybe model name old new (inr liked) = subst (λ (d : Disk). ChangesOne name old d) (sym liked) (changes_like model name old)
+
+read_like : (model name : Name) (disk : Disk) (at : Option ℕ) → read_under (like model name disk) at ≡ read_under disk at
+read_like model name disk None = refl
+read_like model name disk (Some number) = refl
+
+pub synced_liked : (model name : Name) (bytes : List ℕ) (old new : Disk) → ChangesFile name Syncs (like model name old) new → content_in old name ≡ Some bytes → IsSynced name bytes new
+synced_liked model name bytes old new changes is = synced_content name bytes (like model name old) new changes (read_like model name old (names_of old name) ∙ is)
+
+-- what a stop may still leave
+pub widens_then : (name : Name) (a b c : Disk) → Widens name a b → Widens name b c → Widens name a c
+widens_then name a b c first second found leaves = second found (first found leaves)
+
+pub widens_maybe : (model name other : Name) (old new : Disk) → MayBeLike model name old new → Widens other old new
+widens_maybe model name other old new (inl same) found leaves = subst (λ (d : Disk). MayLeave d other found) (sym same) leaves
+widens_maybe model name other old new (inr liked) found leaves = subst (λ (d : Disk). MayLeave d other found) (sym liked)
+    (leaves.0, image_same (like model name old) old (names_at old leaves.0 other) (names_at old leaves.0 other) found refl (λ number leads. refl) leaves.1)
 
 -- ---- bytes
 pub size_is : (disk : Disk) (name : Name) (size : ℕ) (bytes : List ℕ) → content_in disk name ≡ Some bytes → size ≡ length bytes → IsSomeAnd (content_in disk name) (λ b. size ≡ length b)

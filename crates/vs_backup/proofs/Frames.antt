@@ -6,16 +6,16 @@ use Rattle.std.proofs.lemmas.Slice.Eq.{bytes_eq-Decides}
 use Rattle.std.proofs.lemmas.Bool.Decides.{eqb_tells}
 use Rattle.std.proofs.lemmas.Bool.{cond-true, cond-false}
 use Rattle.vs_host.specs.File.{File, IsFileImage, Syncs}
-use Rattle.vs_host.specs.Disk.{Disk, Name, Directory, Change, Creates, Renames, Removes, changed_names, names_of, names_at, read_under, content_in, IsImageOf, ChangesFile, ChangesNames, CreatesFile, SyncsNames, IsFolder}
+use Rattle.vs_host.specs.Disk.{Disk, Mode, Name, Directory, Change, Creates, Renames, Removes, changed_names, names_of, names_at, read_under, content_in, IsImageOf, ChangesFile, ChangesNames, CreatesFile, SyncsNames, IsFolder}
 use Rattle.vs_disk.specs.Images.{Holds, IsSynced, Narrows, MayLeave, Takes}
 use Rattle.vs_disk.specs.Names.{SameAt, Undivided}
 use Rattle.vs_disk.proofs.Hands.{Stays, stays_renamed, stays_removed, hands_file, hands_names, hands_created, hands_synced}
-use Rattle.vs_disk.proofs.Steps.{at_name, differ, itself, same_at, older_names, newest_names, settled, one_state}
+use Rattle.vs_disk.proofs.Steps.{at_name, differ, itself, same_at, same_names, older_names, newest_names, settled, one_state}
 use Rattle.vs_disk.proofs.Images.{sync_narrows}
 use Rattle.vs_disk.proofs.Others.{same_none, same_then, image_same}
 use Rattle.vs_disk.proofs.Contents.{leads_to, leads_nowhere}
 use Rattle.vs_backup.specs.Writing.{IsSettled}
-use Rattle.vs_backup.specs.Works.{IsOutside, IsAlone, Narrowed, Spares, one_name, two_names}
+use Rattle.vs_backup.specs.Works.{ChangesOne, IsOutside, IsAlone, Narrowed, Spares, one_name, two_names}
 
 -- ---- the step of all calls
 pub spares_none : (on : Name → Type 0) (disk : Disk) → Spares on disk disk
@@ -37,6 +37,9 @@ is_out : (inside : Bool) → (inside ≡ true → ⊥) → inside ≡ false
 is_out false not = refl
 is_out true not = absurd (not refl)
 
+some_number : (a b : ℕ) → Some a ≡ Some b → a ≡ b
+some_number a b e = cc
+
 -- ---- each call
 pub spares_file : (name : Name) (step : File → File → Type 0) (old new : Disk) → IsAlone name old → ChangesFile name step old new → Spares (one_name name) old new
 spares_file name step old new alone changes = λ inside out.
@@ -46,11 +49,31 @@ spares_file name step old new alone changes = λ inside out.
       back = λ lost. (lost, λ other is. at lost other);
       files = λ lost other number is leads. changes.others number (λ there.
           alone.alone lost other (λ same. out other is same) (sym (at lost other) ∙ leads ∙ ap (λ (n : ℕ). Some n) (some_number number alone.number (sym there ∙ alone.leads))));
+      modes = λ lost other number is leads. ap (λ (f : ℕ → Mode). f number) changes.modes;
       hands = λ part undivided. hands_file name step old new changes part;
     }
+
+-- calls on one file, which may have changed its mode
+pub same_one : (name : Name) (old new : Disk) → ChangesOne name old new → (lost : ℕ) (other : Name) → names_at new lost other ≡ names_at old lost other
+same_one name old new changes lost other = at_name (names_at new lost) (names_at old lost) other (same_names old new changes.synced changes.pending lost)
+
+pub spares_one : (name : Name) (old new : Disk) → IsAlone name old → ChangesOne name old new → Spares (one_name name) old new
+spares_one name old new alone changes = λ inside out. record {
+  now = λ other is. at 0 other;
+  back = λ lost. (lost, λ other is. at lost other);
+  files = λ lost other number is leads. changes.others number (not_this lost other number (λ same. out other is same) leads);
+  modes = λ lost other number is leads. changes.modes number (not_this lost other number (λ same. out other is same) leads);
+  hands = λ part undivided apart. record {
+    alone = λ lost one other number is not leads there. apart.alone lost one other number is not (sym (at lost one) ∙ leads) (sym (at 0 other) ∙ there);
+  };
+}
   where
-    some_number : (a b : ℕ) → Some a ≡ Some b → a ≡ b
-    some_number a b e = cc
+    at : (lost : ℕ) (other : Name) → names_at new lost other ≡ names_at old lost other
+    at lost other = same_one name old new changes lost other
+
+    not_this : (lost : ℕ) (other : Name) (number : ℕ) → (other ≡ name → ⊥) → names_at new lost other ≡ Some number → names_of old name ≡ Some number → ⊥
+    not_this lost other number differs leads there =
+        alone.alone lost other differs (sym (at lost other) ∙ leads ∙ ap (λ (n : ℕ). Some n) (some_number number alone.number (sym there ∙ alone.leads)))
 
 -- a change of names that leaves those inside
 module _ (on : Name → Type 0) (change : Change) (old new : Disk) (changes : ChangesNames change old new)
@@ -61,6 +84,7 @@ module _ (on : Name → Type 0) (change : Change) (old new : Disk) (changes : Ch
     now = λ name is. now name (out name is);
     back = back inside out;
     files = λ lost name number is leads. ap (λ (f : ℕ → File). f number) changes.files;
+    modes = λ lost name number is leads. ap (λ (f : ℕ → Mode). f number) changes.modes;
     hands = λ part undivided. hands_names part change old new (stays inside out part undivided) changes;
   }
     where
@@ -105,6 +129,7 @@ module _ (made : Name) (old new : Disk) (creates : CreatesFile made old new) whe
     now = λ name is. left name (out name is);
     back = were inside out;
     files = λ lost name number is leads. creates.others number (λ same. not_made lost name (out name is) (leads ∙ ap (λ (n : ℕ). Some n) same));
+    modes = λ lost name number is leads. creates.modes number (λ same. not_made lost name (out name is) (leads ∙ ap (λ (n : ℕ). Some n) same));
     hands = λ part undivided. hands_created part made old new creates;
   }
 
@@ -121,6 +146,7 @@ spares_synced on old new syncs = λ inside out. record {
   now = λ name is. settled old new syncs 0 name;
   back = λ lost. (0, λ name is. settled old new syncs lost name);
   files = λ lost name number is leads. ap (λ (f : ℕ → File). f number) syncs.files;
+  modes = λ lost name number is leads. ap (λ (f : ℕ → Mode). f number) syncs.modes;
   hands = λ part undivided. hands_synced part old new syncs;
 }
 
@@ -137,6 +163,13 @@ alone_file name step old new changes alone = record {
   number = alone.number;
   leads = same_at name step old new changes 0 name ∙ alone.leads;
   alone = λ lost other differ there. alone.alone lost other differ (sym (same_at name step old new changes lost other) ∙ there);
+}
+
+pub alone_one : (name : Name) (old new : Disk) → ChangesOne name old new → IsAlone name old → IsAlone name new
+alone_one name old new changes alone = record {
+  number = alone.number;
+  leads = same_one name old new changes 0 name ∙ alone.leads;
+  alone = λ lost other differ there. alone.alone lost other differ (sym (same_one name old new changes lost other) ∙ there);
 }
 
 -- ---- what is known of a name that is left alone
@@ -191,6 +224,7 @@ narrowed_none old new is = subst (λ (d : Disk). Narrowed old d) (sym is) (recor
   now = λ name. refl;
   back = λ lost. (lost, λ name. refl);
   files = λ number. record { bytes = refl; images = λ c image. image };
+  modes = refl;
 })
 
 pub narrowed_then : (old mid new : Disk) → Narrowed old mid → Narrowed mid new → Narrowed old new
@@ -201,6 +235,7 @@ narrowed_then old mid new first second = record {
     bytes = (second.files number).bytes ∙ (first.files number).bytes;
     images = λ c image. (first.files number).images c ((second.files number).images c image);
   };
+  modes = second.modes ∙ first.modes;
 }
 
 pub some_or_none : (at : Option ℕ) (number : ℕ) → (at ≡ Some number) ⊎ (at ≡ Some number → ⊥)
@@ -218,6 +253,7 @@ narrowed_file name old new changes = record {
     | inl this ↦ sync_narrows (old.files number) (new.files number) (changes.this number this)
     | inr not ↦ subst (λ (f : File). Narrows (old.files number) f) (sym (changes.others number not)) (record { bytes = refl; images = λ c image. image })
   ];
+  modes = changes.modes;
 }
 
 pub narrowed_names : (old new : Disk) → SyncsNames old new → Narrowed old new
@@ -225,6 +261,7 @@ narrowed_names old new syncs = record {
   now = λ name. settled old new syncs 0 name;
   back = λ lost. (0, λ name. settled old new syncs lost name);
   files = λ number. subst (λ (f : File). Narrows (old.files number) f) (sym (ap (λ (f : ℕ → File). f number) syncs.files)) (record { bytes = refl; images = λ c image. image });
+  modes = syncs.modes;
 }
 
 -- ---- what follows from either answer of a call

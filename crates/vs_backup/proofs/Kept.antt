@@ -3,14 +3,14 @@ use Rattle.std.proofs.Common.{◌≡◌, ◌⊎◌, inl, inr, ℕ, zero, suc, co
 use Rattle.std.specs.Str.{bytes_eq}
 use Rattle.std.proofs.lemmas.Bool.{cond-true, cond-false}
 use Rattle.vs_host.specs.File.{File, IsFileImage, Leaves, synced_file}
-use Rattle.vs_host.specs.Disk.{Disk, Name, Creates, Renames, changed_names, names_of, names_at, content_in, IsImage, IsImageOf, ChangesFile, ChangesNames, CreatesFile, SyncsNames}
-use Rattle.vs_disk.specs.Images.{Changes, KeepsImages, HoldsBytes, MayLeave}
+use Rattle.vs_host.specs.Disk.{Disk, Name, Creates, Renames, changed_names, names_of, names_at, content_in, IsImage, IsImageOf, ChangesNames, CreatesFile, SyncsNames}
+use Rattle.vs_disk.specs.Images.{KeepsImages, HoldsBytes, MayLeave}
 use Rattle.vs_disk.proofs.Steps.{at_name, itself, same_at, older_names, newest_names, settled, one_state}
 use Rattle.vs_disk.proofs.Images.{synced_image, read_image}
 use Rattle.vs_disk.proofs.Contents.{file_of_content, holds_synced}
-use Rattle.vs_backup.specs.Works.{Fills, IsAlone, IsHeld}
+use Rattle.vs_backup.specs.Works.{ChangesOne, Fills, IsAlone, IsHeld, Widens}
 use Rattle.vs_backup.specs.Writing.{IsKept, IsSettled, IsGuarded}
-use Rattle.vs_backup.proofs.Frames.{not_same, some_or_none}
+use Rattle.vs_backup.proofs.Frames.{not_same, same_one, some_or_none}
 
 -- ---- what each image has
 has_image : (disk : Disk) (name : Name) (bytes : List ℕ) (image : Name → Option (List ℕ)) → HoldsBytes name bytes disk → IsImage disk image → image name ≡ Some bytes
@@ -40,16 +40,16 @@ may_leave_now name bytes disk is =
     let image : IsFileImage (disk.files has.number) bytes = subst (λ (b : List ℕ). IsFileImage (disk.files has.number) b) has.has (read_image (disk.files has.number)) in
     (0, subst (λ (o : Option ℕ). IsImageOf disk o (Some bytes)) (sym has.leads) (bytes, refl, image))
 
-filled_at : (name : Name) (c : List ℕ) (old new : Disk) (at : Option ℕ) → Fills name old new → IsImageOf old at (Some c) → IsImageOf new at (Some c)
-filled_at name c old new None fills image = image
-filled_at name c old new (Some number) fills image = elim (some_or_none (names_of old name) number) [
+filled_at : (name : Name) (found : Option (List ℕ)) (old new : Disk) (at : Option ℕ) → Fills name old new → IsImageOf old at found → IsImageOf new at found
+filled_at name found old new None fills image = image
+filled_at name found old new (Some number) fills image = elim (some_or_none (names_of old name) number) [
   | inl this ↦ (image.0, image.1, fills.this number this image.0 image.2)
   | inr other ↦ (image.0, image.1, subst (λ (f : File). IsFileImage f image.0) (sym (fills.others number other)) image.2)
 ]
 
-pub may_leave_filled : (name : Name) (c : List ℕ) (old new : Disk) → Fills name old new → MayLeave old name (Some c) → MayLeave new name (Some c)
-may_leave_filled name c old new fills leaves =
-    (leaves.0, subst (λ (o : Option ℕ). IsImageOf new o (Some c)) (sym (same_at name KeepsImages old new fills leaves.0 name)) (filled_at name c old new (names_at old leaves.0 name) fills leaves.1))
+pub fills_widens : (name : Name) (old new : Disk) → Fills name old new → Widens name old new
+fills_widens name old new fills found leaves =
+    (leaves.0, subst (λ (o : Option ℕ). IsImageOf new o found) (sym (same_at name KeepsImages old new fills leaves.0 name)) (filled_at name found old new (names_at old leaves.0 name) fills leaves.1))
 
 -- each image of a file that was synced has its bytes
 synced_leaves : (disk : Disk) (number : ℕ) (bytes : List ℕ) → disk.files number ≡ synced_file bytes → Leaves (disk.files number) (λ c. c ≡ bytes)
@@ -98,13 +98,13 @@ module _ (name backup : Name) (number : ℕ) (old : List ℕ) where
         };
       }
 
-  pub guard_file : (a b : Disk) → (backup ≡ name → ⊥) → (alone : IsAlone name a) → ChangesFile name Changes a b → IsGuarded name backup number old a → IsGuarded name backup number old b
+  pub guard_file : (a b : Disk) → (backup ≡ name → ⊥) → (alone : IsAlone name a) → ChangesOne name a b → IsGuarded name backup number old a → IsGuarded name backup number old b
   guard_file a b differ alone changes guard = record {
-    now = same_at name Changes a b changes 0 backup ∙ guard.now;
+    now = same_one name a b changes 0 backup ∙ guard.now;
     held = record {
       each = λ lost. elim (guard.held.each lost) [
-        | inl by_name ↦ inl (same_at name Changes a b changes lost name ∙ by_name)
-        | inr by_backup ↦ inr (same_at name Changes a b changes lost backup ∙ by_backup)
+        | inl by_name ↦ inl (same_one name a b changes lost name ∙ by_name)
+        | inr by_backup ↦ inr (same_one name a b changes lost backup ∙ by_backup)
       ];
       has = changes.others number (λ there. alone.alone 0 backup differ (guard.now ∙ sym there ∙ alone.leads)) ∙ guard.held.has;
     };

@@ -11,6 +11,7 @@ pub mod Frames
 pub mod Free
 pub mod Going
 pub mod Kept
+pub mod Modes
 pub mod Moving
 pub mod NamesApart
 pub mod Others

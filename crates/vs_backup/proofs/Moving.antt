@@ -1,7 +1,7 @@
 -- Writing a file anew after it was renamed to its backup: in each image the name or the backup name leads to the old file.
 use Rattle.std.proofs.Common.{◌≡◌, inl, inr, ℕ, false, List, [], ◌∷◌, Some, None, length, OnOk, OnErr, Result, Ok, Err, sym, ◌∙◌}
 use Rattle.std.proofs.lemmas.Bool.{true≢false}
-use Rattle.vs_host.specs.Disk.{Disk, Name, Renames, ChangesNames, IsFolder}
+use Rattle.vs_host.specs.Disk.{Disk, Name, Renames, mode_in, ChangesNames, IsFolder}
 use Rattle.vs_host.specs.Trace.{Renamed}
 use Rattle.vs_host.specs.World.{Scene, ChangesFolder, IsTold}
 use Rattle.vs_host.specs.declared.traits.Failed.{Failed}
@@ -17,6 +17,7 @@ use Rattle.vs_backup.specs.declared.errors.Stop.{Stop}
 use Rattle.vs_backup.proofs.Calls.{runs_wider, spares_on}
 use Rattle.vs_backup.proofs.Frames.{spares_renamed}
 use Rattle.vs_backup.proofs.Kept.{guard_kept, guard_moved, guard_bytes, held_kept, settled_holds}
+use Rattle.vs_backup.proofs.Modes.{mode_renamed}
 use Rattle.vs_backup.proofs.Places.{leads_away}
 use Rattle.vs_backup.proofs.Replacing.{replaces_takes, takes_on, takes_others}
 use Rattle.vs_backup.proofs.Copying.{kept_on, may_leave_held, never_no_name, never_other, never_refused}
@@ -68,9 +69,11 @@ module _ (name backup : Name) (old new : List ℕ) (s0 s1 s2 : Scene) (is : IsSe
   backup_leads : (size : ℕ) → WritesAnew name backup is.synced.number old new s1 s2 (Ok size) → LeadsTo backup name s0.folder s2.folder
   backup_leads size anew lost = one_state s2.folder anew.written.1.pending lost backup ∙ anew.guarded.now.now ∙ sym is.synced.leads
 
-  pub moving_done : (size : ℕ) (temporary : Name) → (name ≡ backup → ⊥) → IsFolder s2.folder → WritesAnew name backup is.synced.number old new s1 s2 (Ok size)
+  pub moving_done : (size : ℕ) (temporary : Name) → (name ≡ backup → ⊥) → IsFolder s2.folder → mode_in s2.folder name ≡ mode_in s1.folder backup
+      → WritesAnew name backup is.synced.number old new s1 s2 (Ok size)
       → WritesOver false name temporary backup old new s0 s2 (Ok size)
-  moving_done size temporary differ folder anew = record {
+  moving_done size temporary differ folder mode anew = record {
+    mode = mode ∙ mode_renamed name backup s0.folder s1.folder renames;
     spares = moved_spares (Ok size) anew;
     kept = moved_kept (Ok size) anew;
     places = record {
@@ -142,6 +145,7 @@ module _ (name backup : Name) (old new : List ℕ) (s0 s1 s2 : Scene) (is : IsSe
       aside = λ copies. absurd (true≢false (sym copies));
       anew = λ copies. absurd (true≢false (sym copies));
       written = tt;
+      mode = tt;
       not_written = inl (may_leave_held name old s3.folder (settled_holds name old s3.folder returned.0));
       in_file = λ refused. settled_holds name old s3.folder returned.0;
       in_backup = λ refused. absurd (never_other why place.File place.Backup (λ e. cc) refused);
@@ -161,6 +165,7 @@ module _ (name backup : Name) (old new : List ℕ) (s0 s1 s2 : Scene) (is : IsSe
       aside = λ copies. absurd (true≢false (sym copies));
       anew = λ copies. absurd (true≢false (sym copies));
       written = tt;
+      mode = tt;
       not_written = inr (widens None anew.absent);
       in_file = λ refused. absurd (never_other why place.Backup place.File (λ e. cc) refused);
       in_backup = λ refused some. (None, widens None anew.absent, λ same. cc);

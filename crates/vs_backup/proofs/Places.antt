@@ -1,17 +1,15 @@
 -- Where files stand: a name that calls leave alone leads where it led, and calls on a file leave all names.
 use Rattle.std.proofs.Common.{◌≡◌, inl, inr, ℕ, Bool, true, false, [], Some, Result, Ok, refl, sym, ◌∙◌, subst}
 use Rattle.std.proofs.lemmas.Bool.{true≢false}
-use Rattle.vs_host.specs.File.{File}
-use Rattle.vs_host.specs.Disk.{Disk, Name, names_of, ChangesFile, IsFolder}
+use Rattle.vs_host.specs.Disk.{Disk, Name, names_of, IsFolder}
 use Rattle.vs_host.specs.World.{Scene, ChangesFolder}
-use Rattle.vs_disk.specs.Images.{Changes}
 use Rattle.vs_disk.specs.Runs.{Runs}
-use Rattle.vs_disk.proofs.Steps.{itself, same_at, one_state}
+use Rattle.vs_disk.proofs.Steps.{itself, one_state}
 use Rattle.vs_disk.proofs.Runs.{runs_as, runs_then}
 use Rattle.vs_backup.specs.Works.{ChangesOne, LeadsAway, LeadsTo, Spares, StandsUnder, one_name}
 use Rattle.vs_backup.specs.Writing.{Places, StandsUntil}
 use Rattle.vs_backup.specs.declared.errors.WriteErr.{WriteErr}
-use Rattle.vs_backup.proofs.Frames.{spared}
+use Rattle.vs_backup.proofs.Frames.{same_one, spared}
 
 pub leads_settled : (name : Name) (disk : Disk) → disk.pending ≡ [] → LeadsTo name name disk disk
 leads_settled name disk none lost = one_state disk none lost name
@@ -21,8 +19,8 @@ leads_spared on name that base old new not spares leads lost =
     let at = (spared on name old new not spares).back lost in
     at.1 name (itself name) ∙ leads at.0
 
-leads_changed : (name that other : Name) (step : File → File → Type 0) (base old new : Disk) → ChangesFile other step old new → LeadsTo name that base old → LeadsTo name that base new
-leads_changed name that other step base old new changes leads lost = same_at other step old new changes lost name ∙ leads lost
+leads_changed : (name that other : Name) (base old new : Disk) → ChangesOne other old new → LeadsTo name that base old → LeadsTo name that base new
+leads_changed name that other base old new changes leads lost = same_one other old new changes lost name ∙ leads lost
 
 away_spared : (on : Name → Type 0) (name : Name) (base old new : Disk) → (on name → ⊥) → Spares on old new → LeadsAway name base old → LeadsAway name base new
 away_spared on name base old new not spares away lost leads =
@@ -37,11 +35,11 @@ in_place_spared on name s0 s1 not none runs =
 -- calls on the file
 pub in_place_on : (name : Name) (s0 s1 s2 : Scene) → ChangesFolder s0 s1 → Runs (LeadsTo name name) s0 s1 → Runs (ChangesOne name) s1 s2 → Runs (LeadsTo name name) s0 s2
 in_place_on name s0 s1 s2 frame first second =
-    runs_then (LeadsTo name name) (ChangesOne name) (LeadsTo name name) s0 s1 s2 (λ d leads. leads) (λ d changes. leads_changed name name name Changes s0.folder s1.folder d changes first.now) frame first second
+    runs_then (LeadsTo name name) (ChangesOne name) (LeadsTo name name) s0 s1 s2 (λ d leads. leads) (λ d changes. leads_changed name name name s0.folder s1.folder d changes first.now) frame first second
 
 pub in_place_changed : (name : Name) (s0 s1 : Scene) → s0.folder.pending ≡ [] → Runs (ChangesOne name) s0 s1 → Runs (LeadsTo name name) s0 s1
 in_place_changed name s0 s1 none runs =
-    runs_as (ChangesOne name) (LeadsTo name name) s0 s1 (λ d changes. leads_changed name name name Changes s0.folder s0.folder d changes (leads_settled name s0.folder none)) runs
+    runs_as (ChangesOne name) (LeadsTo name name) s0 s1 (λ d changes. leads_changed name name name s0.folder s0.folder d changes (leads_settled name s0.folder none)) runs
 
 -- a file that has another name now does not have this one
 pub leads_away : (name backup : Name) (number : ℕ) (old new : Disk) → (name ≡ backup → ⊥) → IsFolder new → names_of old name ≡ Some number → LeadsTo backup name old new → LeadsAway name old new

@@ -2,15 +2,13 @@
 use Rattle.std.proofs.Common.{◌≡◌, inl, inr, ℕ, suc, Some, None, sym, ◌∙◌, ap, subst}
 use Rattle.std.specs.Str.{bytes_eq}
 use Rattle.std.proofs.lemmas.Bool.{cond-true}
-use Rattle.vs_host.specs.File.{File}
-use Rattle.vs_host.specs.Disk.{Disk, Name, Change, Removes, Renames, changed_names, names_of, names_at, ChangesFile, ChangesNames, CreatesFile, SyncsNames}
+use Rattle.vs_host.specs.Disk.{Disk, Name, Change, Removes, Renames, changed_names, names_of, names_at, ChangesNames, CreatesFile, SyncsNames}
 use Rattle.vs_host.specs.World.{Scene, ChangesFolder}
-use Rattle.vs_disk.specs.Images.{Changes}
 use Rattle.vs_disk.specs.Runs.{Runs}
 use Rattle.vs_disk.proofs.Runs.{runs_as, runs_on, runs_then}
-use Rattle.vs_disk.proofs.Steps.{at_name, itself, newest_names, older_names, same_at, settled}
+use Rattle.vs_disk.proofs.Steps.{at_name, itself, newest_names, older_names, settled}
 use Rattle.vs_backup.specs.Works.{ChangesOne, HasNew, IsGone, KeepsStates, LeadsNowhereElse, Renews, RenewsBut, Spares, one_name, two_names}
-use Rattle.vs_backup.proofs.Frames.{created_leads, spared}
+use Rattle.vs_backup.proofs.Frames.{created_leads, same_one, spared}
 use Rattle.vs_backup.proofs.Kept.{moved_away}
 
 some_same : (a b : ℕ) → Some a ≡ Some b → a ≡ b
@@ -59,8 +57,8 @@ nowhere_removed name old new removes number leads = let clash : None ≡ Some nu
 pub nowhere_synced : (name : Name) (old new : Disk) → SyncsNames old new → LeadsNowhereElse name old new
 nowhere_synced name old new syncs number leads = sym (settled old new syncs 0 name) ∙ leads
 
-pub nowhere_changed : (name other : Name) (step : File → File → Type 0) (old new : Disk) → ChangesFile other step old new → LeadsNowhereElse name old new
-nowhere_changed name other step old new changes number leads = sym (same_at other step old new changes 0 name) ∙ leads
+pub nowhere_changed : (name other : Name) (old new : Disk) → ChangesOne other old new → LeadsNowhereElse name old new
+nowhere_changed name other old new changes number leads = sym (same_one other old new changes 0 name) ∙ leads
 
 pub nowhere_then : (name : Name) (a b c : Disk) → LeadsNowhereElse name a b → LeadsNowhereElse name b c → LeadsNowhereElse name a c
 nowhere_then name a b c first second number leads = first number (second number leads)
@@ -71,12 +69,12 @@ module _ (name : Name) (s0 s1 s2 : Scene) (frame : ChangesFolder s0 s1) (renews 
   renews_led new runs = runs_then (Renews name) (LeadsNowhereElse name) (Renews name) s0 s1 s2 (λ d is. is) (λ d leads number here. inl (new number (leads number here))) frame renews runs
 
   pub renews_filled : HasNew name s0.folder s1.folder → Runs (ChangesOne name) s1 s2 → Runs (Renews name) s0 s2
-  renews_filled new runs = renews_led new (runs_as (ChangesOne name) (LeadsNowhereElse name) s1 s2 (λ d changes. nowhere_changed name name Changes s1.folder d changes) runs)
+  renews_filled new runs = renews_led new (runs_as (ChangesOne name) (LeadsNowhereElse name) s1 s2 (λ d changes. nowhere_changed name name s1.folder d changes) runs)
 
   pub renews_taken : (s3 : Scene) → ChangesFolder s1 s2 → HasNew name s0.folder s1.folder → Runs (ChangesOne name) s1 s2 → Runs (LeadsNowhereElse name) s2 s3 → Runs (Renews name) s0 s3
   renews_taken s3 framed new fills takes =
       let led = runs_on (LeadsNowhereElse name) (nowhere_then name) s1 s2 s3 framed
-      (runs_as (ChangesOne name) (LeadsNowhereElse name) s1 s2 (λ d changes. nowhere_changed name name Changes s1.folder d changes) fills) takes in
+      (runs_as (ChangesOne name) (LeadsNowhereElse name) s1 s2 (λ d changes. nowhere_changed name name s1.folder d changes) fills) takes in
       runs_then (Renews name) (LeadsNowhereElse name) (Renews name) s0 s1 s3 (λ d is. is) (λ d leads number here. inl (new number (leads number here))) frame renews led
 
   -- and got another name, or was not made
@@ -87,7 +85,7 @@ module _ (name : Name) (s0 s1 s2 : Scene) (frame : ChangesFolder s0 s1) (renews 
   gone_on S gone same runs = runs_then (Renews name) S (Renews name) s0 s1 s2 (λ d is. is) (λ d step. renews_absent name s0.folder d (same d step ∙ gone 0)) frame renews runs
 
   pub renews_gone : (other : Name) → IsGone name s1.folder → Runs (ChangesOne other) s1 s2 → Runs (Renews name) s0 s2
-  renews_gone other gone runs = gone_on (ChangesOne other) gone (λ d changes. same_at other Changes s1.folder d changes 0 name) runs
+  renews_gone other gone runs = gone_on (ChangesOne other) gone (λ d changes. same_one other s1.folder d changes 0 name) runs
 
   pub renews_dropped : (other : Name) → (name ≡ other → ⊥) → IsGone name s1.folder → Runs (Spares (one_name other)) s1 s2 → Runs (Renews name) s0 s2
   renews_dropped other differ gone runs = gone_on (Spares (one_name other)) gone (λ d spares. (spared (one_name other) name s1.folder d differ spares).now name (itself name)) runs

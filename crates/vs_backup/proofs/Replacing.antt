@@ -3,17 +3,17 @@ use Rattle.std.proofs.Common.{◌≡◌, ◌⊎◌, inl, inr, ℕ, zero, suc, Bo
 use Rattle.std.specs.Str.{bytes_eq}
 use Rattle.std.proofs.lemmas.Bool.{cond-true}
 use Rattle.vs_host.specs.File.{File}
-use Rattle.vs_host.specs.Disk.{Disk, Name, Removes, Renames, changed_names, names_of, names_at, content_in, IsImageOf, ChangesFile, ChangesNames, SyncsNames}
+use Rattle.vs_host.specs.Disk.{Disk, Name, Removes, Renames, changed_names, names_of, names_at, content_in, IsImageOf, ChangesNames, SyncsNames}
 use Rattle.vs_host.specs.World.{Scene, ChangesFolder}
 use Rattle.vs_disk.specs.Images.{MayLeave, Takes}
 use Rattle.vs_disk.specs.Runs.{Runs}
-use Rattle.vs_disk.proofs.Steps.{at_name, itself, same_at, newest_names, older_names, settled}
+use Rattle.vs_disk.proofs.Steps.{at_name, itself, newest_names, older_names, settled}
 use Rattle.vs_disk.proofs.Others.{image_same}
 use Rattle.vs_disk.proofs.Runs.{runs_as, runs_on, runs_then}
 use Rattle.vs_disk.proofs.Contents.{takes_then}
-use Rattle.vs_backup.specs.Works.{Drops, IsGone, Spares}
+use Rattle.vs_backup.specs.Works.{ChangesOne, Drops, IsGone, Spares}
 use Rattle.vs_backup.specs.Writing.{Replaces}
-use Rattle.vs_backup.proofs.Frames.{absent_now, leaves_spared, spared, spares_synced, takes_same, takes_spared}
+use Rattle.vs_backup.proofs.Frames.{absent_now, leaves_spared, same_one, spared, spares_synced, takes_same, takes_spared}
 use Rattle.vs_backup.proofs.Kept.{moved_away}
 
 -- ---- at each moment
@@ -102,8 +102,8 @@ replaces_dropped copying name backup bytes s0 s1 s2 frame free replaces drops =
 pub gone_renamed : (from to : Name) (old mid new : Disk) → (from ≡ to → ⊥) → ChangesNames (Renames from to) old mid → SyncsNames mid new → IsGone from new
 gone_renamed from to old mid new differ renames syncs lost = settled mid new syncs lost from ∙ moved_away from to old mid (λ e. differ (sym e)) renames
 
-pub gone_changed : (name other : Name) (step : File → File → Type 0) (old new : Disk) → ChangesFile other step old new → IsGone name old → IsGone name new
-gone_changed name other step old new changes gone lost = same_at other step old new changes lost name ∙ gone lost
+pub gone_changed : (name other : Name) (old new : Disk) → ChangesOne other old new → IsGone name old → IsGone name new
+gone_changed name other old new changes gone lost = same_one other old new changes lost name ∙ gone lost
 
 pub gone_spared : (on : Name → Type 0) (name : Name) (old new : Disk) → (on name → ⊥) → Spares on old new → IsGone name old → IsGone name new
 gone_spared on name old new not spares gone lost =

@@ -7,13 +7,13 @@ use Rattle.vs_host.specs.World.{Scene, ChangesFolder, content_of}
 use Rattle.vs_host.specs.declared.traits.Failed.{Failed}
 use Rattle.vs_disk.specs.Images.{HoldsBytes}
 use Rattle.vs_disk.proofs.Runs.{runs_as}
-use Rattle.vs_backup.specs.Works.{ChangesOne, Empties, Fills, LeavesNone, Renews, RenewsFile, Spares, SparesTwo, Unchanged, three_names}
+use Rattle.vs_backup.specs.Works.{ChangesOne, Empties, LeavesNone, Renews, RenewsFile, Spares, SparesTwo, Unchanged, three_names}
 use Rattle.vs_backup.specs.Writing.{CopiesBytes, IsKept, IsSettled, ReplacesByCopy, StartsOverFrom, StartedOverFrom, StillHolds}
 use Rattle.vs_backup.proofs.Calls.{spares_on, synced_bytes, synced_there}
 use Rattle.vs_backup.proofs.Copying.{kept_on, cut_content, over_spares, over_kept, over_backed, over_replaced, copy_spares, copy_kept, copy_in_place, copy_holds, copy_content}
-use Rattle.vs_backup.proofs.Filling.{changes_same, fills_cut}
+use Rattle.vs_backup.proofs.Filling.{changes_by, changes_same, fills_changes, fills_cut}
 use Rattle.vs_backup.proofs.Frames.{spares_same, err_is}
-use Rattle.vs_backup.proofs.Kept.{kept_by_name, settled_holds, may_leave_now, may_leave_filled}
+use Rattle.vs_backup.proofs.Kept.{fills_widens, kept_by_name, settled_holds, may_leave_now}
 use Rattle.vs_backup.proofs.Places.{in_place_on, in_place_changed}
 use Rattle.vs_backup.proofs.Renewing.{renews_gone, renews_looked, renews_same}
 use Rattle.vs_backup.proofs.Replacing.{takes_on, takes_looks, gone_changed}
@@ -82,13 +82,13 @@ module _ (told : Bool) (name temporary backup : Name) (s0 s1 s2 : Scene) (differ
         let standing = copied is old settled in
         record {
           spares = spares_on on s0 s1 s2 frame (copy_spares name backup temporary old s0 s1 differ differ_name settled first)
-              (over_spares name backup temporary old s1 s2 apart standing (empties.folder is) old content (empties.runs is));
+              (over_spares name backup temporary old s1 s2 apart standing (empties.folder is) old content (fills_changes name s1 s2 (empties.runs is)));
           kept = kept_on (IsKept name backup old) s0 s1 s2 frame (copy_kept name backup temporary old s0 s1 differ differ_name settled first)
-              (over_kept name backup temporary old s1 s2 apart standing (empties.folder is) old content (empties.runs is));
-          in_place = in_place_on name s0 s1 s2 frame (copy_in_place name backup temporary old s0 s1 differ differ_name settled first) (empties.runs is);
+              (over_kept name backup temporary old s1 s2 apart standing (empties.folder is) old content (fills_changes name s1 s2 (empties.runs is)));
+          in_place = in_place_on name s0 s1 s2 frame (copy_in_place name backup temporary old s0 s1 differ differ_name settled first) (fills_changes name s1 s2 (empties.runs is));
           replaced = takes_on backup old s0 s1 s2 frame (replaces.takes is old (synced_bytes name old s0.folder settled.synced))
-              (over_replaced name backup temporary old s1 s2 apart standing (empties.folder is) old content (empties.runs is));
-          anew = renews_gone temporary s0 s1 s2 frame (renews.runs is) name (none.gone is) (empties.runs is);
+              (over_replaced name backup temporary old s1 s2 apart standing (empties.folder is) old content (fills_changes name s1 s2 (empties.runs is)));
+          anew = renews_gone temporary s0 s1 s2 frame (renews.runs is) name (none.gone is) (fills_changes name s1 s2 (empties.runs is));
         };
   }
 
@@ -98,17 +98,16 @@ module _ (told : Bool) (name temporary backup : Name) (s0 s1 s2 : Scene) (differ
         let apart = λ (e : backup ≡ name). differ_name (sym e) in
         let content = before is old settled in
         let cuts = empties.cuts is in
-        let keeps : Fills name s1.folder s2.folder = fills_cut name s1.folder s2.folder cuts in
         record {
-          backed = over_backed name backup temporary old s1 s2 apart (copied is old settled) (empties.folder is) old content (empties.runs is);
+          backed = over_backed name backup temporary old s1 s2 apart (copied is old settled) (empties.folder is) old content (fills_changes name s1 s2 (empties.runs is));
           empty = cut_content name old s1.folder s2.folder cuts content;
-          may_leave = may_leave_filled name old s1.folder s2.folder keeps (may_leave_now name old s1.folder content);
+          may_leave = fills_widens name s1.folder s2.folder (fills_cut name s1.folder s2.folder cuts) (Some old) (may_leave_now name old s1.folder content);
         };
   }
 
 -- the name under which the copy was made still leads to no file
 pub aside_emptied : (told : Bool) (name temporary : Name) (s1 s2 : Scene) → LeavesNone told temporary s1 → Empties told name s1 s2 → LeavesNone told temporary s2
-aside_emptied told name temporary s1 s2 none empties = record { gone = λ is. gone_changed temporary name (Cuts 0) s1.folder s2.folder (empties.cuts is) (none.gone is) }
+aside_emptied told name temporary s1 s2 none empties = record { gone = λ is. gone_changed temporary name s1.folder s2.folder (changes_by name (Cuts 0) s1.folder s2.folder (empties.cuts is)) (none.gone is) }
 
 -- ---- after an error
 pub still_copied : (told : Bool) (name temporary backup : Name) (s0 s1 : Scene) → (name ≡ temporary → ⊥) → (name ≡ backup → ⊥) → SparesTwo told temporary backup s0 s1 → StillHolds told name s0 s1

@@ -1,17 +1,16 @@
 -- Writing without a backup: the file alone changes, or its temporary name until the file takes its own.
 use Rattle.std.specs.Prelude.{IsErrOf}
-use Rattle.std.proofs.Common.{◌≡◌, inl, inr, ℕ, List, [], ◌∷◌, Some, None, length, OnOk, OnErr, IfOk, Result, Ok, Err, refl, sym, ◌∙◌, subst, arith}
+use Rattle.std.proofs.Common.{◌≡◌, inl, inr, ℕ, List, [], ◌∷◌, Some, None, length, OnOk, OnErr, IfOk, Result, Ok, Err, refl, sym, ◌∙◌, subst}
 use Rattle.vs_host.specs.File.{Cuts}
-use Rattle.vs_host.specs.Disk.{Disk, Name, content_in, ChangesFile, IsFolder}
+use Rattle.vs_host.specs.Disk.{Disk, Name, content_in, mode_in, ChangesFile, IsFolder}
 use Rattle.vs_host.specs.Trace.{Cut}
 use Rattle.vs_host.specs.World.{Scene, ChangesFolder, IsTold}
 use Rattle.vs_host.specs.declared.traits.Failed.{Failed}
 use Rattle.vs_disk.specs.Images.{IsSynced, MayLeave, Takes}
 use Rattle.vs_disk.specs.Runs.{Runs}
-use Rattle.vs_disk.proofs.Images.{cut_keeps_images}
 use Rattle.vs_disk.proofs.Runs.{one_call, runs_on}
 use Rattle.vs_disk.proofs.Contents.{holds_synced}
-use Rattle.vs_backup.specs.Works.{ChangesOne, Fills, HasSynced, IsAlone, IsGone, Narrowed, Renews, Spares, SparesOthers, StaysGone, Steps, one_name, two_names}
+use Rattle.vs_backup.specs.Works.{ChangesOne, HasSynced, IsAlone, IsGone, Narrowed, Renews, Spares, SparesOthers, StaysGone, Steps, Widens, one_name, two_names}
 use Rattle.vs_backup.specs.Writing.{BeginsPlain, IsFailed, IsSettled, WritesFresh, WritesNew, WritesPlain, nowhere}
 use Rattle.vs_backup.specs.declared.errors.Place.TheVariants.{Nowhere}
 use Rattle.vs_backup.specs.declared.errors.Stop.{Stop}
@@ -19,9 +18,10 @@ use Rattle.vs_backup.specs.declared.errors.Stop.TheVariants as stop
 use Rattle.vs_backup.specs.declared.errors.WriteErr.{WriteErr}
 use Rattle.vs_backup.proofs.Calls.{runs_wider, runs_file, spares_on, synced_bytes}
 use Rattle.vs_backup.proofs.Frames.{spares_same, content_spared, absent_now}
-use Rattle.vs_backup.proofs.Filling.{changes_by, changes_same, changes_then}
+use Rattle.vs_backup.proofs.Filling.{changes_by, changes_same, changes_then, fills_cut}
 use Rattle.vs_backup.proofs.Following.{narrowed_now}
-use Rattle.vs_backup.proofs.Kept.{may_leave_now, may_leave_filled, settled_holds}
+use Rattle.vs_backup.proofs.Kept.{fills_widens, may_leave_now, settled_holds}
+use Rattle.vs_backup.proofs.Modes.{mode_file, mode_narrowed}
 use Rattle.vs_backup.proofs.Copying.{alone_now}
 use Rattle.vs_backup.proofs.Others.{others_spared, others_on}
 use Rattle.vs_backup.proofs.Places.{in_place_changed}
@@ -37,6 +37,7 @@ module _ (name : Name) (old new : List ℕ) (s0 s1 : Scene) (content : content_i
     moments = inr (looked, refl);
     others = spared;
     written = tt;
+    mode = tt;
     not_written = inl (may_leave_now name old s1.folder (narrowed_content name s0.folder s1.folder (narrowed_now s0 s1 looked) ∙ content));
   }
 
@@ -53,20 +54,13 @@ module _ (name : Name) (old new : List ℕ) (s0 s1 : Scene) (content : content_i
       moments = inl (begins s2 (one_call (ChangesOne name) Cut (name ∷ []) answer s1 s2 framed told (changes_same name s1.folder s2.folder same)) (cut_spares same));
       others = others_on (one_name name) s0 s1 s2 frame looked spared (others_spared (one_name name) s1 s2 (cut_spares same));
       written = tt;
+      mode = tt;
       not_written = inl (subst (λ (d : Disk). MayLeave d name (Some old)) (sym same) (may_leave_now name old s1.folder (synced_bytes name old s1.folder settled.synced)));
     }
 
     module _ (cuts : ChangesFile name (Cuts 0) s1.folder s2.folder) (s3 : Scene) (runs : Runs (ChangesOne name) s2 s3) where
       there : content_in s1.folder name ≡ Some old
       there = synced_bytes name old s1.folder settled.synced
-
-      keeps : Fills name s1.folder s2.folder
-      keeps = record {
-        synced = cuts.synced;
-        pending = cuts.pending;
-        others = cuts.others;
-        this = λ number leads. cut_keeps_images 0 (s1.folder.files number) (s2.folder.files number) (omega arith) (cuts.this number leads);
-      }
 
       plain_alone : IsAlone name s1.folder
       plain_alone = alone_now name old s1.folder settled.pending folder there
@@ -81,18 +75,21 @@ module _ (name : Name) (old new : List ℕ) (s0 s1 : Scene) (content : content_i
       plain_others : SparesOthers (one_name name) s0 s3
       plain_others = others_on (one_name name) s0 s1 s3 frame looked spared (others_spared (one_name name) s1 s3 plain_spares)
 
-      pub plain_filled : (result : Result ℕ Stop) → IfOk result (λ size. (size ≡ length new) × IsSynced name new s3.folder) → OnErr result (Fills name s2.folder s3.folder) → WritesPlain name old new s0 s3 result
-      plain_filled (Ok size) done fills = record {
+      pub plain_filled : (result : Result ℕ Stop) → IfOk result (λ size. (size ≡ length new) × IsSynced name new s3.folder) → OnErr result (Widens name s2.folder s3.folder)
+          → OnOk result (mode_in s3.folder name ≡ mode_in s2.folder name) → WritesPlain name old new s0 s3 result
+      plain_filled (Ok size) done widens mode = record {
         moments = inl (begins s3 plain_changes plain_spares);
         others = plain_others;
         written = (done.0, holds_synced name new s3.folder (runs.now.pending ∙ cuts.pending ∙ settled.pending) done.1);
+        mode = mode ∙ mode_file name name (Cuts 0) s1.folder s2.folder cuts ∙ mode_narrowed name s0.folder s1.folder (narrowed_now s0 s1 looked);
         not_written = tt;
       }
-      plain_filled (Err why) done fills = record {
+      plain_filled (Err why) done widens mode = record {
         moments = inl (begins s3 plain_changes plain_spares);
         others = plain_others;
         written = tt;
-        not_written = inl (may_leave_filled name old s2.folder s3.folder fills (may_leave_filled name old s1.folder s2.folder keeps (may_leave_now name old s1.folder there)));
+        mode = tt;
+        not_written = inl (widens (Some old) (fills_widens name s1.folder s2.folder (fills_cut name s1.folder s2.folder cuts) (Some old) (may_leave_now name old s1.folder there)));
       }
 
 -- ---- a file that was not there

@@ -1,7 +1,8 @@
 -- The whole of a write after the first look at the folder, which has left it as it was.
-use Rattle.std.proofs.Common.{◌≡◌, ◌⊎◌, inl, inr, ℕ, Bool, true, false, List, [], ◌∷◌, Option, Some, None, Result, Ok, Err, refl, sym, ◌∙◌, subst}
+use Rattle.std.proofs.Common.{◌≡◌, ◌⊎◌, inl, inr, ℕ, Bool, true, false, List, [], ◌∷◌, Option, Some, None, Result, Ok, Err, refl, sym, ◌∙◌, ap, subst}
 use Rattle.std.specs.Prelude.{is_some, IsSome}
-use Rattle.vs_host.specs.Disk.{Disk, Name, content_in}
+use Rattle.std.proofs.lemmas.Result.{on_ok_weaker}
+use Rattle.vs_host.specs.Disk.{Disk, Name, content_in, mode_in}
 use Rattle.vs_host.specs.Names.{temporary}
 use Rattle.vs_host.specs.Trace.{Looked}
 use Rattle.vs_host.specs.World.{Scene, ChangesFolder, IsTold, ReadsFolder}
@@ -74,6 +75,7 @@ module _ (s0 s1 s2 : Scene) (frame : ReadsFolder s0 s1) (looks : Looks s0 s1) (r
       ];
       others = others_on (one_name name) s0 s1 s2 changed (looks_narrowed s0 s1 looks) (others_looks (one_name name) s0 s1 looks) here.plain.others;
       written = here.plain.written;
+      mode = on_ok_weaker here.answer (λ same. same ∙ ap (λ (d : Disk). mode_in d name) looks.now) here.plain.mode;
       not_written = here.plain.not_written;
     };
   }

@@ -1,5 +1,6 @@
 pub mod Backups
 pub mod Desks
 pub mod Ends
+pub mod Modes
 pub mod Works
 pub mod Writing

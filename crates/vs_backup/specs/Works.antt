@@ -4,7 +4,7 @@ use Rattle.vs_host.specs.File.{Cuts, synced_file}
 use Rattle.vs_host.specs.Disk.{Disk, Name, names_of, names_at, ChangesFile, IsFolder, SyncsNames}
 use Rattle.vs_host.specs.Trace.{Each, Snapshot, Synced, SyncedNames}
 use Rattle.vs_host.specs.World.{Scene, content_of}
-use Rattle.vs_disk.specs.Images.{Changes, IsSynced, KeepsImages, MayLeave, Narrows}
+use Rattle.vs_disk.specs.Images.{IsSynced, KeepsImages, MayLeave, Narrows}
 use Rattle.vs_disk.specs.Names.{IsApart, SameAt}
 use Rattle.vs_disk.specs.Runs.{Inside, Looks, Runs}
 
@@ -116,19 +116,23 @@ pub record IsAlone (name : Name) (disk : Disk) : Type 0 where
   pub leads : names_of disk name ≡ Some number
   pub alone : (lost : ℕ) (other : Name) → (other ≡ name → ⊥) → names_at disk lost other ≡ Some number → ⊥
 
--- All names are read as before, and a stop leaves under them together only what it left before.
+-- All names are read as before, and a stop leaves under them together only what it left before, with the same modes.
 pub record Narrowed (old new : Disk) : Type 0 where
   pub now : (name : Name) → names_of new name ≡ names_of old name
   pub back : (lost : ℕ) → (l : ℕ) × ((name : Name) → names_at new lost name ≡ names_at old l name)
   pub files : (number : ℕ) → Narrows (old.files number) (new.files number)
+  pub modes : new.modes ≡ old.modes
 
 -- The file of this name alone was changed, by writes and cuts: what a stop might have left of it before, it may still leave.
 abbrev pub Fills : Name → Disk → Disk → Type 0
 Fills name = ChangesFile name KeepsImages
 
--- The file of this name alone was changed.
-abbrev pub ChangesOne : Name → Disk → Disk → Type 0
-ChangesOne name = ChangesFile name Changes
+-- The file of this name alone was changed, and perhaps its mode.
+pub record ChangesOne (name : Name) (old new : Disk) : Type 0 where
+  pub synced : new.synced ≡ old.synced
+  pub pending : new.pending ≡ old.pending
+  pub others : (number : ℕ) → names_of old name ≢ Some number → new.files number ≡ old.files number
+  pub modes : (number : ℕ) → names_of old name ≢ Some number → new.modes number ≡ old.modes number
 
 -- The file of this name was synced, or the names were: at each moment all names are read as before, and a stop leaves only what it
 -- left at the moment before, also under other names alone.
@@ -156,7 +160,7 @@ pub record SyncsAll (told : Bool) (before after : Scene) : Type 0 where
 -- The file of this name was emptied.
 pub record Empties (told : Bool) (name : Name) (before after : Scene) : Type 0 where
   pub folder : IsTrue told → IsFolder before.folder
-  pub runs : IsTrue told → Runs (ChangesOne name) before after
+  pub runs : IsTrue told → Runs (Fills name) before after
   pub cuts : IsTrue told → ChangesFile name (Cuts 0) before.folder after.folder
 
 -- The name leads to no file, whatever a stop leaves.

@@ -5,13 +5,14 @@ use Rattle.std.specs.Prelude.{Bool, true, false}
 use Rattle.vs_faults.specs.Faults.{HasRisen}
 use Rattle.vs_text.specs.Documents.{file_in}
 use Rattle.vs_text.specs.declared.format.Format.{Format}
-use Rattle.vs_host.specs.Disk.{Disk, Name, IsImage, names_of, content_in}
+use Rattle.vs_host.specs.Disk.{Disk, Name, IsImage, names_of, content_in, mode_in}
 use Rattle.vs_host.specs.Names.{temporary}
 use Rattle.vs_host.specs.Trace.{Looked, Snapshot}
 use Rattle.vs_host.specs.World.{HasNewest, Scene, content_of}
 use Rattle.vs_host.specs.declared.traits.Failed.{Failed}
 use Rattle.vs_disk.specs.Images.{HoldsBytes, IsSynced, MayLeave, Takes}
 use Rattle.vs_disk.specs.Runs.{FailsLast, Looks, Quiet, Runs}
+use Rattle.vs_backup.specs.Modes.{Makes, TakesMode}
 use Rattle.vs_backup.specs.Works.{HasSynced, IsGone, IsHeld, LeadsAway, LeadsTo, Narrowed, Renews, RenewsBut, Spares, SparesOthers}
 use Rattle.vs_backup.specs.Works.{StandsUnder, StaysGone, Steps, one_name, two_names, three_names}
 use Rattle.vs_backup.specs.Backups.{copies}
@@ -169,6 +170,11 @@ pub record StartedOverFrom (told : Bool) (name backup : Name) (before after : Sc
 pub record StillHolds (told : Bool) (name : Name) (before after : Scene) : Type 0 where
   pub each : IsTrue told → (old : List ℕ) → IsSettled name old before.folder → HoldsBytes name old after.folder
 
+-- The file has the mode that it had, and so has its copy under the backup name.
+pub record CopiesMode (told : Bool) (name backup : Name) (before after : Scene) : Type 0 where
+  pub file : IsTrue told → mode_in after.folder name ≡ mode_in before.folder name
+  pub copy : IsTrue told → mode_in after.folder backup ≡ mode_in before.folder name
+
 -- A settled copy of the file stands under the backup name.
 pub record CopiesBytes (told : Bool) (name backup : Name) (before after : Scene) : Type 0 where
   pub settled : IsTrue told → (old : List ℕ) → content_of before name ≡ Some old → IsSettled backup old after.folder
@@ -192,6 +198,7 @@ pub record WritesOver (copying : Bool) (name temporary backup : Name) (old new :
   pub places : Places copying true name backup before after result
   pub replaced : Runs (Replaces copying name backup old) before after
   pub written : IfOk result (λ size. (size ≡ length new) × HoldsBytes name new after.folder × HoldsBytes backup old after.folder)
+  pub mode : OnOk result (mode_in after.folder name ≡ mode_in before.folder name)
   pub aside : copying ≡ true → ¬ IsFailed result → IsGone temporary after.folder
   pub anew : copying ≡ true → Runs (Renews temporary) before after
   pub not_written : OnErr result (MayLackNew name old after.folder)
@@ -216,6 +223,11 @@ pub record MakesAnew (name backup : Name) (number : ℕ) (old : List ℕ) (befor
 pub record MakesAnewFrom (told : Bool) (name backup : Name) (before after : Scene) : Type 0 where
   pub each : IsTrue told → (number : ℕ) (old : List ℕ) → (backup ≡ name → ⊥) → IsGuarded name backup number old before.folder
       → MakesAnew name backup number old before after
+  pub modes : (backup ≡ name → ⊥) → Makes told (mode_in before.folder backup) before after
+
+-- The file that was made anew has the mode of the backup.
+pub record IsMadeLike (told : Bool) (name backup : Name) (before after : Scene) : Type 0 where
+  pub takes : (backup ≡ name → ⊥) → TakesMode told backup name before after
 
 -- A stop may leave no file under the name.
 pub record MayBeAbsent (told : Bool) (name : Name) (after : Scene) : Type 0 where
@@ -253,6 +265,7 @@ pub record WritesBacked (copying keep : Bool) (name temporary backup : Name) (ol
   pub moments : BeginsWhole copying keep name temporary backup old new before after result ⊎ (Steps Narrowed before after × IsErr result)
   pub others : SparesOthers (backed_names copying name temporary backup) before after
   pub written : IfOk result (λ size. (size ≡ length new) × HoldsBytes name new after.folder)
+  pub mode : OnOk result (mode_in after.folder name ≡ mode_in before.folder name)
   pub kept : keep ≡ true → OnOk result (HoldsBytes backup old after.folder)
   pub gone : keep ≡ false → OnOk result ((HasRisen before.folder_faults after.folder_faults → ⊥) → IsGone backup after.folder)
   -- the name under which the copy was made
@@ -287,6 +300,7 @@ pub record WritesPlain (name : Name) (old new : List ℕ) (before after : Scene)
   pub moments : BeginsPlain name old before after ⊎ (Steps Narrowed before after × IsErr result)
   pub others : SparesOthers (one_name name) before after
   pub written : IfOk result (λ size. (size ≡ length new) × HoldsBytes name new after.folder)
+  pub mode : OnOk result (mode_in after.folder name ≡ mode_in before.folder name)
   pub not_written : OnErr result (MayLackNew name old after.folder)
 
 -- A write of a file that was not there: at each moment a stop leaves the new bytes under the name, or what it left before.

@@ -1,12 +1,14 @@
 // Writing over a file that is there, with a backup.
 ghost use Rattle.std.specs.Prelude.{◌≡◌, ◌≢◌, true, false, ℕ, List, length, IfOk, IsErr, OnErr, OnOk, IsErrOf, IsTrue, Some, None, IsSome};
 ghost use Rattle.vs_text.specs.Documents.{file_in};
+ghost use Rattle.vs_host.specs.Disk.{mode_in};
 ghost use Rattle.vs_host.specs.World.{content_of};
 ghost use Rattle.vs_backup.specs.Desks.{AreApart, Continues, GoesOn};
 ghost use Rattle.vs_disk.specs.Images.{IsSynced};
 ghost use Rattle.vs_disk.specs.Runs.{Quiet, Runs};
-ghost use Rattle.vs_backup.specs.Works.{ChangesOne, Fills, HasSynced, IsAlone, LeavesNone, RenewsFile, SparesTwo};
-ghost use Rattle.vs_backup.specs.Writing.{CopiesBytes, FailsNoEarlier, IsFailed, IsFilled, IsFilledFirm, IsSettled, MakesAnewFrom, MayBeAbsent, PutsBack, ReplacesByCopy, StartedOverFrom, StartsOverFrom, StillHolds, WritesBacked, WritesOver};
+ghost use Rattle.vs_backup.specs.Modes.{Makes};
+ghost use Rattle.vs_backup.specs.Works.{ChangesOne, HasSynced, IsAlone, LeavesNone, RenewsFile, SparesTwo, Widens};
+ghost use Rattle.vs_backup.specs.Writing.{CopiesBytes, CopiesMode, FailsNoEarlier, IsFailed, IsFilled, IsFilledFirm, IsMadeLike, IsSettled, MakesAnewFrom, MayBeAbsent, PutsBack, ReplacesByCopy, StartedOverFrom, StartsOverFrom, StillHolds, WritesBacked, WritesOver};
 
 use crate::Desk;
 use crate::errors::{Place, Stop, WriteErr};
@@ -51,6 +53,8 @@ fn copy_to_backup<D: Desk>(
     ensures ok { OnOk result (CopiesBytes (D.tells).folder name.now backup.now (D.scene desk.old) (D.scene desk.new)) }
     ensures aside { OnOk result (LeavesNone (D.tells).folder temporary.now (D.scene desk.new)) }
     ensures anew { RenewsFile (D.tells).folder temporary.now (D.scene desk.old) (D.scene desk.new) }
+    ensures modes { Makes (D.tells).folder (mode_in (D.scene desk.old).folder name.now) (D.scene desk.old) (D.scene desk.new) }
+    ensures mode { OnOk result (CopiesMode (D.tells).folder name.now backup.now (D.scene desk.old) (D.scene desk.new)) }
     ensures kept { GoesOn D.tells D.scene D.valid D.stays (IsErr result) desk.old desk.new }
 {
     make_anew(desk, temporary, Readers::Owner)?;
@@ -75,6 +79,8 @@ fn start_over<D: Desk>(
     ensures ok { OnOk result (StartedOverFrom (D.tells).folder name.now backup.now (D.scene desk.old) (D.scene desk.new)) }
     ensures aside { OnOk result (LeavesNone (D.tells).folder temporary.now (D.scene desk.new)) }
     ensures err { OnErr result (StillHolds (D.tells).folder name.now (D.scene desk.old) (D.scene desk.new)) }
+    ensures modes { Makes (D.tells).folder (mode_in (D.scene desk.old).folder name.now) (D.scene desk.old) (D.scene desk.new) }
+    ensures mode { OnOk result (CopiesMode (D.tells).folder name.now backup.now (D.scene desk.old) (D.scene desk.new)) }
     ensures kept { GoesOn D.tells D.scene D.valid D.stays (IsErr result) desk.old desk.new }
 {
     copy_to_backup(desk, name, backup, temporary, buffer)?;
@@ -93,7 +99,8 @@ fn copy_back<D: Desk>(desk: &mut D, from: &str, to: &str) -> Result<(), Failed>
     ensures runs { IsTrue (D.tells).folder → Runs (ChangesOne to.now) (D.scene desk.old) (D.scene desk.new) }
     ensures ok { OnOk result (IsTrue (D.tells).folder → (bytes : List ℕ) → content_of (D.scene desk.old) from.now ≡ Some bytes
         → IsSynced to.now bytes (D.scene desk.new).folder) }
-    ensures err { OnErr result (IsTrue (D.tells).folder → Fills to.now (D.scene desk.old).folder (D.scene desk.new).folder) }
+    ensures err { OnErr result (IsTrue (D.tells).folder → Widens to.now (D.scene desk.old).folder (D.scene desk.new).folder) }
+    ensures modes { Makes (D.tells).folder (mode_in (D.scene desk.old).folder from.now) (D.scene desk.old) (D.scene desk.new) }
     ensures kept { GoesOn D.tells D.scene D.valid D.stays (IsErr result) desk.old desk.new }
 {
     empty_file(desk, to)?;
@@ -119,6 +126,7 @@ fn write_copying<D: Desk>(
     ensures no_name { IsErrOf result WriteErr.NoBackupName → ⊥ }
     ensures quiet { OnOk result (IsTrue (D.tells).folder → Quiet (D.scene desk.old) (D.scene desk.new)) }
     ensures refused { OnErr result (IsTrue (D.tells).folder → PutsBack (D.scene desk.old) (D.scene desk.new) result) }
+    ensures modes { Makes (D.tells).folder (mode_in (D.scene desk.old).folder backing.entry.name.now) (D.scene desk.old) (D.scene desk.new) }
     ensures kept { Continues D.scene D.valid D.stays (IsFailed result) desk.old desk.new }
 {
     match start_over(desk, backing.name, backing.backup, backing.temporary, piece) {
@@ -148,6 +156,7 @@ fn fill_anew<D: Desk>(
     ensures anew { MakesAnewFrom (D.tells).folder name.now backup.now (D.scene desk.old) (D.scene desk.new) }
     ensures absent { MayBeAbsent (D.tells).folder name.now (D.scene desk.new) }
     ensures ok { IfOk result (λ size. IsFilled (D.tells).folder name.now format (D.has_text desk.old) size (D.scene desk.new)) }
+    ensures mode { OnOk result (IsMadeLike (D.tells).folder name.now backup.now (D.scene desk.old) (D.scene desk.new)) }
     ensures kept { GoesOn D.tells D.scene D.valid D.stays (IsErrOf result Stop.Failed) desk.old desk.new }
 {
     desk.create_private(name)?;
@@ -171,6 +180,7 @@ fn write_anew<D: Desk>(
     ensures anew { MakesAnewFrom (D.tells).folder name.now backup.now (D.scene desk.old) (D.scene desk.new) }
     ensures ok { IfOk result (λ size. IsFilledFirm (D.tells).folder name.now format (D.has_text desk.old) size (D.scene desk.new)) }
     ensures err { OnErr result (MayBeAbsent (D.tells).folder name.now (D.scene desk.new)) }
+    ensures mode { OnOk result (IsMadeLike (D.tells).folder name.now backup.now (D.scene desk.old) (D.scene desk.new)) }
     ensures kept { GoesOn D.tells D.scene D.valid D.stays (IsErrOf result Stop.Failed) desk.old desk.new }
 {
     let size = fill_anew(alloc, desk, name, backup, piece, format)?;
@@ -195,6 +205,7 @@ fn write_moving<D: Desk>(
     ensures no_name { IsErrOf result WriteErr.NoBackupName → ⊥ }
     ensures quiet { OnOk result (IsTrue (D.tells).folder → Quiet (D.scene desk.old) (D.scene desk.new)) }
     ensures refused { OnErr result (IsTrue (D.tells).folder → PutsBack (D.scene desk.old) (D.scene desk.new) result) }
+    ensures modes { Makes (D.tells).folder (mode_in (D.scene desk.old).folder backing.entry.name.now) (D.scene desk.old) (D.scene desk.new) }
     ensures kept { Continues D.scene D.valid D.stays (IsFailed result) desk.old desk.new }
 {
     match desk.rename(backing.name, backing.backup) {
@@ -233,6 +244,7 @@ fn write_over<D: Desk>(
     ensures no_name { IsErrOf result WriteErr.NoBackupName → ⊥ }
     ensures quiet { OnOk result (IsTrue (D.tells).folder → Quiet (D.scene desk.old) (D.scene desk.new)) }
     ensures refused { OnErr result (IsTrue (D.tells).folder → PutsBack (D.scene desk.old) (D.scene desk.new) result) }
+    ensures modes { Makes (D.tells).folder (mode_in (D.scene desk.old).folder backing.entry.name.now) (D.scene desk.old) (D.scene desk.new) }
     ensures kept { Continues D.scene D.valid D.stays (IsFailed result) desk.old desk.new }
 {
     if backing.copies {
@@ -261,6 +273,7 @@ fn write_backed<D: Desk>(
     ensures no_name { IsErrOf result WriteErr.NoBackupName → ⊥ }
     ensures calls { IsTrue (D.tells).folder → (text : List (List ℕ)) → D.has_text desk.old text
         → FailsNoEarlier backing.entry.name.now (file_in backing.entry.format text) (D.scene desk.old) (D.scene desk.new) result }
+    ensures modes { Makes (D.tells).folder (mode_in (D.scene desk.old).folder backing.entry.name.now) (D.scene desk.old) (D.scene desk.new) }
     ensures kept { Continues D.scene D.valid D.stays (IsFailed result) desk.old desk.new }
 {
     let size = write_over(alloc, desk, backing, piece)?;
@@ -291,6 +304,7 @@ pub(crate) fn write_with_backup<D: Desk>(
     ensures no_name { IsErrOf result WriteErr.NoBackupName → ⊥ }
     ensures calls { IsTrue (D.tells).folder → (text : List (List ℕ)) → D.has_text desk.old text
         → FailsNoEarlier backing.entry.name.now (file_in backing.entry.format text) (D.scene desk.old) (D.scene desk.new) result }
+    ensures modes { Makes (D.tells).folder (mode_in (D.scene desk.old).folder backing.entry.name.now) (D.scene desk.old) (D.scene desk.new) }
     ensures kept { Continues D.scene D.valid D.stays (IsFailed result) desk.old desk.new }
 {
     match settle(desk, backing.name) {

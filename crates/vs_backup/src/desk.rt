@@ -1,10 +1,10 @@
 // A folder and a text in one object.
-ghost use Rattle.std.specs.Prelude.{◌≡◌, ◌≢◌, ◌<◌, ◌≤◌, ◌+◌, ◌∷◌, [], ℕ, List, length, take, drop, IfSome, IfOk, OnOk, OnErr, IsErr, IsErrOf, IsTrue, is_some, IsSome, IsSomeAnd, None};
+ghost use Rattle.std.specs.Prelude.{◌≡◌, ◌≢◌, ◌<◌, ◌≤◌, ◌+◌, ◌∷◌, [], ℕ, List, length, take, drop, IfSome, IfOk, OnOk, OnErr, IsErr, IsErrOf, IsTrue, is_some, IsSome, IsSomeAnd, None, Some};
 ghost use Rattle.vs_faults.specs.Faults.{HasRisen};
 ghost use Rattle.vs_text.specs.Text.{IsText, file_of};
 ghost use Rattle.vs_text.specs.declared.TheConstants.{MAX_LINES};
 ghost use Rattle.vs_host.specs.File.{Writes, WritesSome, Cuts, Syncs};
-ghost use Rattle.vs_host.specs.Disk.{Name, ChangesFile, ChangesNames, CreatesFile, SyncsNames, Renames, Removes};
+ghost use Rattle.vs_host.specs.Disk.{Name, ChangesFile, ChangesNames, CreatesFile, SyncsNames, MayBeLike, Renames, Removes, like, mode_in, owner_mode};
 ghost use Rattle.vs_host.specs.Trace.{Looked, Created, Measured, Read, Wrote, Cut, Synced, Renamed, Removed, SyncedNames};
 ghost use Rattle.vs_host.specs.World.{content_of, IsTold, CountsFault};
 ghost use Rattle.vs_disk.specs.Runs.{Looks};
@@ -55,20 +55,11 @@ pub trait Desk: World {
         requires apart { reads self.old name.now → ⊥ }
         requires there { IsTrue (Self.tells).folder → content_of (Self.scene self.old) name.now ≡ None }
         ensures ok { OnOk result (IsTrue (Self.tells).folder → CreatesFile name.now (Self.scene self.old).folder (Self.scene self.new).folder) }
+        ensures mode { OnOk result (IsTrue (Self.tells).folder → mode_in (Self.scene self.new).folder name.now ≡ Some owner_mode) }
         ensures err { OnErr result ((Self.scene self.new).folder ≡ (Self.scene self.old).folder) }
         ensures quiet { OnOk result ((Self.scene self.new).folder_faults ≡ (Self.scene self.old).folder_faults) }
         ensures told { IsTrue (Self.tells).folder → IsTold Created (name.now ∷ []) result (Self.scene self.old) (Self.scene self.new) }
         ensures kept { GoesOn Self.tells Self.scene valid stays (IsErr result) self.old self.new };
-
-    /// Gives the file `to` the mode bits of the file `from`, where the system has them and allows it. Nothing that is told has
-    /// them, so it counts as no call.
-    fn take_mode(&mut self, from: &str, to: &str)
-        requires valid { valid self.old }
-        requires apart { reads self.old from.now → ⊥ }
-        requires apart_to { reads self.old to.now → ⊥ }
-        ensures same { Self.scene self.new ≡ Self.scene self.old }
-        ensures valid { valid self.new }
-        ensures stays { stays self.old self.new };
 
     /// The number of bytes of the file.
     fn len(&mut self, name: &str) -> Result<u64, Failed>
@@ -125,6 +116,21 @@ pub trait Desk: World {
         requires there { IsTrue (Self.tells).folder → IsSome (content_of (Self.scene self.old) name.now) }
         ensures ok { OnOk result (IsTrue (Self.tells).folder → ChangesFile name.now Syncs (Self.scene self.old).folder (Self.scene self.new).folder) }
         ensures err { OnErr result ((Self.scene self.new).folder ≡ (Self.scene self.old).folder) }
+        ensures quiet { OnOk result ((Self.scene self.new).folder_faults ≡ (Self.scene self.old).folder_faults) }
+        ensures told { IsTrue (Self.tells).folder → IsTold Synced (name.now ∷ []) result (Self.scene self.old) (Self.scene self.new) }
+        ensures kept { GoesOn Self.tells Self.scene valid stays (IsErr result) self.old self.new };
+
+    /// Gives the file the mode bits of the model, if that is there, and syncs it. A stop during the call may leave either mode.
+    ///
+    /// A desk gives no more rights than the model has, and fewer where the system does not allow to give all of them.
+    fn sync_like(&mut self, model: &str, name: &str) -> Result<(), Failed>
+        requires valid { valid self.old }
+        requires apart_model { reads self.old model.now → ⊥ }
+        requires apart { reads self.old name.now → ⊥ }
+        requires there { IsTrue (Self.tells).folder → IsSome (content_of (Self.scene self.old) name.now) }
+        ensures ok { OnOk result (IsTrue (Self.tells).folder →
+            ChangesFile name.now Syncs (like model.now name.now (Self.scene self.old).folder) (Self.scene self.new).folder) }
+        ensures err { OnErr result (MayBeLike model.now name.now (Self.scene self.old).folder (Self.scene self.new).folder) }
         ensures quiet { OnOk result ((Self.scene self.new).folder_faults ≡ (Self.scene self.old).folder_faults) }
         ensures told { IsTrue (Self.tells).folder → IsTold Synced (name.now ∷ []) result (Self.scene self.old) (Self.scene self.new) }
         ensures kept { GoesOn Self.tells Self.scene valid stays (IsErr result) self.old self.new };

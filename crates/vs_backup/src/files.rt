@@ -1,12 +1,13 @@
 // Calls on one file and its name.
-ghost use Rattle.std.specs.Prelude.{◌≡◌, ◌≢◌, ◌≤◌, ◌<◌, ◌+◌, ◌^◌, ◌++◌, ◌∷◌, [], Bool, false, ℕ, List, length, IfOk, IfSome, OnOk, OnErr, IsErr, IsTrue, Some, None, IsSome};
+ghost use Rattle.std.specs.Prelude.{◌≡◌, ◌≢◌, ◌≤◌, ◌<◌, ◌+◌, ◌^◌, ◌++◌, ◌∷◌, [], Bool, false, ℕ, List, length, IfOk, IfSome, MatchOption, OnOk, OnErr, IsErr, IsTrue, Some, None, IsSome};
 ghost use Rattle.vs_host.specs.File.{Syncs};
-ghost use Rattle.vs_host.specs.Disk.{Name, names_of, ChangesFile, CreatesFile};
+ghost use Rattle.vs_host.specs.Disk.{Name, names_of, mode_in, like, ChangesFile, CreatesFile, MayBeLike};
 ghost use Rattle.vs_host.specs.Trace.{Created, Synced, SyncedNames};
 ghost use Rattle.vs_host.specs.World.{content_of, IsTold};
 ghost use Rattle.vs_disk.specs.Images.{IsSynced, Takes};
 ghost use Rattle.vs_disk.specs.Runs.{Runs};
 ghost use Rattle.vs_backup.specs.Desks.{GoesOn};
+ghost use Rattle.vs_backup.specs.Modes.{Makes, MakesFor, TakesMode};
 ghost use Rattle.vs_backup.specs.Works.{Drops, Empties, HandsOver, HasNew, IsAlone, IsGone, IsHeld, KeepsStates, LeadsNowhereElse, Renews, Settles, SettlesAny, Spares, SyncsAll, SyncsBytes, SyncsInOrder, Unchanged, Widens, one_name, two_names};
 ghost use Rattle.vs_backup.specs.Writing.{IsSettled, SettlesBytes, SettlesSynced};
 
@@ -75,6 +76,7 @@ pub(crate) fn clear_name<D: Desk>(desk: &mut D, name: &str) -> Result<(), Failed
     ensures ok { OnOk result (IsTrue (D.tells).folder → content_of (D.scene desk.new) name.now ≡ None) }
     ensures renews { IsTrue (D.tells).folder → Runs (Renews name.now) (D.scene desk.old) (D.scene desk.new) }
     ensures states { IsTrue (D.tells).folder → KeepsStates (D.scene desk.old).folder (D.scene desk.new).folder }
+    ensures modes { Makes (D.tells).folder None (D.scene desk.old) (D.scene desk.new) }
     ensures kept { GoesOn D.tells D.scene D.valid D.stays (IsErr result) desk.old desk.new }
 {
     if desk.has(name)? {
@@ -100,6 +102,7 @@ fn create_for<D: Desk>(desk: &mut D, name: &str, readers: Readers) -> Result<(),
     ensures ok { OnOk result (IsTrue (D.tells).folder → CreatesFile name.now (D.scene desk.old).folder (D.scene desk.new).folder) }
     ensures err { OnErr result ((D.scene desk.new).folder ≡ (D.scene desk.old).folder) }
     ensures told { IsTrue (D.tells).folder → IsTold Created (name.now ∷ []) result (D.scene desk.old) (D.scene desk.new) }
+    ensures modes { MakesFor readers (D.tells).folder (D.scene desk.old) (D.scene desk.new) }
     ensures kept { GoesOn D.tells D.scene D.valid D.stays (IsErr result) desk.old desk.new }
 {
     match readers {
@@ -117,13 +120,14 @@ pub(crate) fn make_anew<D: Desk>(desk: &mut D, name: &str, readers: Readers) -> 
     ensures alone { OnOk result (IsTrue (D.tells).folder → IsAlone name.now (D.scene desk.new).folder) }
     ensures renews { IsTrue (D.tells).folder → Runs (Renews name.now) (D.scene desk.old) (D.scene desk.new) }
     ensures anew { OnOk result (IsTrue (D.tells).folder → HasNew name.now (D.scene desk.old).folder (D.scene desk.new).folder) }
+    ensures modes { MakesFor readers (D.tells).folder (D.scene desk.old) (D.scene desk.new) }
     ensures kept { GoesOn D.tells D.scene D.valid D.stays (IsErr result) desk.old desk.new }
 {
     clear_name(desk, name)?;
     create_for(desk, name, readers)
 }
 
-/// Syncs a file, which gets the mode bits of the model before, if there is one.
+/// Syncs a file, which gets the mode bits of the model with it, if there is one.
 ///
 /// The mode comes after the bytes, since a mode without the right to write keeps bytes out, and before the sync, which keeps it.
 pub(crate) fn sync_like<D: Desk>(
@@ -135,15 +139,18 @@ pub(crate) fn sync_like<D: Desk>(
     requires apart_model { IfSome model (λ model. D.reads desk.old model.now → ⊥) }
     requires apart { D.reads desk.old name.now → ⊥ }
     requires there { IsTrue (D.tells).folder → IsSome (content_of (D.scene desk.old) name.now) }
-    ensures ok { OnOk result (IsTrue (D.tells).folder → ChangesFile name.now Syncs (D.scene desk.old).folder (D.scene desk.new).folder) }
-    ensures err { OnErr result ((D.scene desk.new).folder ≡ (D.scene desk.old).folder) }
+    ensures ok { OnOk result (IsTrue (D.tells).folder
+        → MatchOption model.entry (ChangesFile name.now Syncs (D.scene desk.old).folder (D.scene desk.new).folder)
+        (λ model. ChangesFile name.now Syncs (like model.now name.now (D.scene desk.old).folder) (D.scene desk.new).folder)) }
+    ensures err { OnErr result (MatchOption model.entry ((D.scene desk.new).folder ≡ (D.scene desk.old).folder)
+        (λ model. MayBeLike model.now name.now (D.scene desk.old).folder (D.scene desk.new).folder)) }
     ensures told { IsTrue (D.tells).folder → IsTold Synced (name.now ∷ []) result (D.scene desk.old) (D.scene desk.new) }
     ensures kept { GoesOn D.tells D.scene D.valid D.stays (IsErr result) desk.old desk.new }
 {
-    if let Some(model) = model {
-        desk.take_mode(model, name);
+    match model {
+        Some(model) => desk.sync_like(model, name),
+        None => desk.sync(name),
     }
-    desk.sync(name)
 }
 
 /// Renames a file and syncs the names.
@@ -165,6 +172,8 @@ pub(crate) fn take_name<D: Desk>(desk: &mut D, from: &str, to: &str) -> Result<(
         → Runs (λ before after. IsHeld to.now from.now number bytes after) (D.scene desk.old) (D.scene desk.new) }
     ensures hands { IsTrue (D.tells).folder → Runs (HandsOver from.now to.now) (D.scene desk.old) (D.scene desk.new) }
     ensures err { OnErr result (IsTrue (D.tells).folder → Widens to.now (D.scene desk.old).folder (D.scene desk.new).folder) }
+    ensures modes { Makes (D.tells).folder (mode_in (D.scene desk.old).folder from.now) (D.scene desk.old) (D.scene desk.new) }
+    ensures mode { OnOk result (TakesMode (D.tells).folder from.now to.now (D.scene desk.old) (D.scene desk.new)) }
     ensures kept { GoesOn D.tells D.scene D.valid D.stays (IsErr result) desk.old desk.new }
 {
     desk.rename(from, to)?;
@@ -180,6 +189,7 @@ pub(crate) fn drop_name<D: Desk>(desk: &mut D, name: &str) -> Result<(), Failed>
     ensures drops { IsTrue (D.tells).folder → Runs (Drops name.now) (D.scene desk.old) (D.scene desk.new) }
     ensures leads { IsTrue (D.tells).folder → Runs (LeadsNowhereElse name.now) (D.scene desk.old) (D.scene desk.new) }
     ensures gone { OnOk result (IsTrue (D.tells).folder → IsGone name.now (D.scene desk.new).folder) }
+    ensures modes { Makes (D.tells).folder None (D.scene desk.old) (D.scene desk.new) }
     ensures kept { GoesOn D.tells D.scene D.valid D.stays (IsErr result) desk.old desk.new }
 {
     desk.remove(name)?;

@@ -1,12 +1,14 @@
 // Filling a file, with the text or with the bytes of another file, in pieces.
-ghost use Rattle.std.specs.Prelude.{◌≡◌, ◌≢◌, ◌≤◌, ◌<◌, ◌+◌, ◌*◌, ◌^◌, ◌++◌, [], ℕ, List, length, take, IfOk, IfSome, OnOk, OnErr, IsErr, IsErrOf, IsTrue, Some, IsSome, IsSomeAnd};
+ghost use Rattle.std.specs.Prelude.{◌≡◌, ◌≢◌, ◌≤◌, ◌<◌, ◌+◌, ◌*◌, ◌^◌, ◌++◌, [], ℕ, List, length, take, IfOk, IfSome, MatchOption, OnOk, OnErr, IsErr, IsErrOf, IsTrue, Some, None, IsSome, IsSomeAnd};
 ghost use Rattle.vs_text.specs.Documents.{file_in};
+ghost use Rattle.vs_host.specs.Disk.{mode_in};
 ghost use Rattle.vs_host.specs.World.{content_of};
 ghost use Rattle.vs_disk.specs.Images.{IsSynced};
 ghost use Rattle.vs_disk.specs.Runs.{Runs};
 ghost use Rattle.vs_backup.specs.Desks.{GoesOn};
 ghost use Rattle.vs_backup.specs.Ends.{dos_ends, ends_in};
-ghost use Rattle.vs_backup.specs.Works.{ChangesOne, Fills, IsAlone};
+ghost use Rattle.vs_backup.specs.Modes.{Makes, TakesMode};
+ghost use Rattle.vs_backup.specs.Works.{ChangesOne, Fills, IsAlone, Widens};
 
 use crate::Desk;
 use crate::errors::Stop;
@@ -198,7 +200,11 @@ pub(crate) fn fill_text<D: Desk>(
     ensures runs { IsTrue (D.tells).folder → Runs (ChangesOne name.now) (D.scene desk.old) (D.scene desk.new) }
     ensures ok { IfOk result (λ size. IsTrue (D.tells).folder → (text : List (List ℕ)) → D.has_text desk.old text
         → (size ≡ length (file_in format text)) × IsSynced name.now (file_in format text) (D.scene desk.new).folder) }
-    ensures err { OnErr result (IsTrue (D.tells).folder → Fills name.now (D.scene desk.old).folder (D.scene desk.new).folder) }
+    ensures err { OnErr result (IsTrue (D.tells).folder → Widens name.now (D.scene desk.old).folder (D.scene desk.new).folder) }
+    ensures modes { MatchOption model.entry (Makes (D.tells).folder None (D.scene desk.old) (D.scene desk.new))
+        (λ model. Makes (D.tells).folder (mode_in (D.scene desk.old).folder model.now) (D.scene desk.old) (D.scene desk.new)) }
+    ensures mode { OnOk result (MatchOption model.entry (TakesMode (D.tells).folder name.now name.now (D.scene desk.old) (D.scene desk.new))
+        (λ model. TakesMode (D.tells).folder model.now name.now (D.scene desk.old) (D.scene desk.new))) }
     ensures kept { GoesOn D.tells D.scene D.valid D.stays (IsErrOf result Stop.Failed) desk.old desk.new }
 {
     let size = write_text(alloc, desk, name, piece, format)?;
@@ -249,7 +255,9 @@ pub(crate) fn fill_copy<D: Desk>(
     ensures runs { IsTrue (D.tells).folder → Runs (ChangesOne to.now) (D.scene desk.old) (D.scene desk.new) }
     ensures ok { OnOk result (IsTrue (D.tells).folder → (bytes : List ℕ) → content_of (D.scene desk.old) from.now ≡ Some bytes
         → IsSynced to.now bytes (D.scene desk.new).folder) }
-    ensures err { OnErr result (IsTrue (D.tells).folder → Fills to.now (D.scene desk.old).folder (D.scene desk.new).folder) }
+    ensures err { OnErr result (IsTrue (D.tells).folder → Widens to.now (D.scene desk.old).folder (D.scene desk.new).folder) }
+    ensures modes { Makes (D.tells).folder (mode_in (D.scene desk.old).folder from.now) (D.scene desk.old) (D.scene desk.new) }
+    ensures mode { OnOk result (TakesMode (D.tells).folder from.now to.now (D.scene desk.old) (D.scene desk.new)) }
     ensures kept { GoesOn D.tells D.scene D.valid D.stays (IsErr result) desk.old desk.new }
 {
     let size = desk.len(from)?;

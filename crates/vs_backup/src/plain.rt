@@ -4,6 +4,7 @@ ghost use Rattle.vs_text.specs.Documents.{file_in};
 ghost use Rattle.vs_host.specs.World.{content_of};
 ghost use Rattle.vs_disk.specs.Runs.{Runs};
 ghost use Rattle.vs_backup.specs.Desks.{GoesOn};
+ghost use Rattle.vs_backup.specs.Modes.{Makes, MakesUsual};
 ghost use Rattle.vs_backup.specs.Works.{HasNew, IsGone, Renews, Spares, one_name, two_names};
 ghost use Rattle.vs_backup.specs.Writing.{IsFilled, WritesFresh, WritesPlain};
 
@@ -28,6 +29,7 @@ pub(crate) fn write_plain<D: Desk>(
     ensures plain { IsTrue (D.tells).folder → (old : List ℕ) → content_of (D.scene desk.old) name.now ≡ Some old
         → (text : List (List ℕ)) → D.has_text desk.old text
         → WritesPlain name.now old (file_in format text) (D.scene desk.old) (D.scene desk.new) result }
+    ensures modes { Makes (D.tells).folder None (D.scene desk.old) (D.scene desk.new) }
     ensures kept { GoesOn D.tells D.scene D.valid D.stays (IsErrOf result Stop.Failed) desk.old desk.new }
 {
     settle(desk, name)?;
@@ -51,6 +53,7 @@ fn make_filled<D: Desk>(
     ensures ok { IfOk result (λ size. IsFilled (D.tells).folder temporary.now format (D.has_text desk.old) size (D.scene desk.new)) }
     ensures anew { OnOk result (IsTrue (D.tells).folder → HasNew temporary.now (D.scene desk.old).folder (D.scene desk.new).folder) }
     ensures clears { IsErrOf result Stop.NoMemory → IsTrue (D.tells).folder → IsGone temporary.now (D.scene desk.new).folder }
+    ensures modes { MakesUsual (D.tells).folder (D.scene desk.old) (D.scene desk.new) }
     ensures kept { GoesOn D.tells D.scene D.valid D.stays (IsErrOf result Stop.Failed) desk.old desk.new }
 {
     make_anew(desk, temporary, Readers::Usual)?;
@@ -79,6 +82,7 @@ pub(crate) fn write_fresh<D: Desk>(
     requires differ { name.now ≢ temporary.now }
     ensures fresh { IsTrue (D.tells).folder → content_of (D.scene desk.old) name.now ≡ None → (text : List (List ℕ)) → D.has_text desk.old text
         → WritesFresh (two_names temporary.now name.now) name.now (file_in format text) (D.scene desk.old) (D.scene desk.new) result }
+    ensures modes { MakesUsual (D.tells).folder (D.scene desk.old) (D.scene desk.new) }
     ensures kept { GoesOn D.tells D.scene D.valid D.stays (IsErrOf result Stop.Failed) desk.old desk.new }
 {
     let size = make_filled(alloc, desk, temporary, piece, format)?;

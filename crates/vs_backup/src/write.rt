@@ -1,13 +1,14 @@
 // The whole of a write, by its options.
 ghost use Rattle.std.specs.Prelude.{◌≡◌, ◌≢◌, ◌⊎◌, true, false, ℕ, List, [], ◌∷◌, length, IfOk, IfSome, MatchOption, IsErrOf, IsTrue, Some, None, IsSome, string_bytes};
 ghost use Rattle.vs_text.specs.Documents.{file_in};
-ghost use Rattle.vs_host.specs.Disk.{Name};
+ghost use Rattle.vs_host.specs.Disk.{Name, mode_in};
 ghost use Rattle.vs_host.specs.Names.{AreNames, is_allowed, temporary};
 ghost use Rattle.vs_host.specs.Trace.{Looked};
 ghost use Rattle.vs_host.specs.World.{IsTold, content_of};
 ghost use Rattle.vs_backup.specs.Backups.{IsBackupName, IsNoName, WorksOn, backs_up, backup_of, copies};
 ghost use Rattle.vs_disk.specs.Runs.{Looks};
 ghost use Rattle.vs_backup.specs.Desks.{Continues, GoesOn, OnlyReads};
+ghost use Rattle.vs_backup.specs.Modes.{Makes, MakesUsual, RewritesLike};
 ghost use Rattle.vs_backup.specs.Works.{SparesOthers, two_names};
 ghost use Rattle.vs_backup.specs.Writing.{BeginsByLook, FailsNoEarlier, FindsNoName, IsFailed, IsUnseen, OldIn, WritesFresh, WritesInPlace, WritesNew, WritesPlain, WritesWith, nowhere};
 
@@ -77,6 +78,7 @@ fn write_named<D: Desk>(
     ensures no_name { IsErrOf result WriteErr.NoBackupName → ⊥ }
     ensures calls { IsTrue (D.tells).folder → (text : List (List ℕ)) → D.has_text desk.old text
         → FailsNoEarlier name.now (file_in options.now.format text) (D.scene desk.old) (D.scene desk.new) result }
+    ensures modes { Makes (D.tells).folder (mode_in (D.scene desk.old).folder name.now) (D.scene desk.old) (D.scene desk.new) }
     ensures kept { Continues D.scene D.valid D.stays (IsFailed result) desk.old desk.new }
 {
     let Ok(temporary) = temporary_of(alloc, backup) else {
@@ -137,6 +139,7 @@ fn write_unbacked<D: Desk>(
     ensures plain { IsTrue (D.tells).folder → (old : List ℕ) → content_of (D.scene desk.old) name.now ≡ Some old
         → (text : List (List ℕ)) → D.has_text desk.old text
         → WritesPlain name.now old (file_in format text) (D.scene desk.old) (D.scene desk.new) result }
+    ensures modes { Makes (D.tells).folder None (D.scene desk.old) (D.scene desk.new) }
     ensures kept { GoesOn D.tells D.scene D.valid D.stays (IsErrOf result Stop.Failed) desk.old desk.new }
 {
     let mut piece = buffer(alloc)?;
@@ -157,6 +160,7 @@ fn write_new<D: Desk>(
     requires differ { name.now ≢ temporary.now }
     ensures fresh { IsTrue (D.tells).folder → content_of (D.scene desk.old) name.now ≡ None → (text : List (List ℕ)) → D.has_text desk.old text
         → WritesFresh (two_names temporary.now name.now) name.now (file_in format text) (D.scene desk.old) (D.scene desk.new) result }
+    ensures modes { MakesUsual (D.tells).folder (D.scene desk.old) (D.scene desk.new) }
     ensures kept { GoesOn D.tells D.scene D.valid D.stays (IsErrOf result Stop.Failed) desk.old desk.new }
 {
     let mut piece = buffer(alloc)?;
@@ -186,6 +190,7 @@ fn write_chosen<D: Desk>(
         → (options.now.backup ≡ false) × (IsTrue (D.tells).folder → backup_of options.now name.now (D.scene desk.old).folder ≡ None) }
     ensures calls { IsTrue (D.tells).folder → (text : List (List ℕ)) → D.has_text desk.old text
         → FailsNoEarlier name.now (file_in options.now.format text) (D.scene desk.old) (D.scene desk.new) result }
+    ensures modes { Makes (D.tells).folder (mode_in (D.scene desk.old).folder name.now) (D.scene desk.old) (D.scene desk.new) }
     ensures kept { Continues D.scene D.valid D.stays (IsFailed result) desk.old desk.new }
 {
     match choose(alloc, desk, name, options) {
@@ -222,6 +227,7 @@ fn write_there<D: Desk>(
     ensures others { IsTrue (D.tells).folder → SparesOthers (WorksOn options.now name.now (D.scene desk.old).folder) (D.scene desk.old) (D.scene desk.new) }
     ensures calls { IsTrue (D.tells).folder → (text : List (List ℕ)) → D.has_text desk.old text
         → FailsNoEarlier name.now (file_in options.now.format text) (D.scene desk.old) (D.scene desk.new) result }
+    ensures modes { Makes (D.tells).folder (mode_in (D.scene desk.old).folder name.now) (D.scene desk.old) (D.scene desk.new) }
     ensures kept { Continues D.scene D.valid D.stays (IsFailed result) desk.old desk.new }
 {
     if backs_up(options) {
@@ -281,6 +287,12 @@ pub fn write_out<D: Desk>(
     // The other names, whatever is there.
     ensures others { IsTrue (D.tells).folder
         → SparesOthers (WorksOn options.now names.now.file (D.scene desk.old).folder) (D.scene desk.old) (D.scene desk.new) }
+
+    // Who may read the files that it makes: those who may read a file that is there, or its owner alone; and where no file is there, those
+    // whom the system lets read a new one.
+    ensures modes { RewritesLike D.tells names.now.file (D.scene desk.old) (D.scene desk.new) }
+    ensures usual { IsTrue (D.tells).folder → content_of (D.scene desk.old) names.now.file ≡ None
+        → MakesUsual (D.tells).folder (D.scene desk.old) (D.scene desk.new) }
 
     // The calls that failed.
     ensures calls { IsTrue (D.tells).folder → (text : List (List ℕ)) → D.has_text desk.old text

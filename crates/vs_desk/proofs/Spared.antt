@@ -11,6 +11,7 @@ use Rattle.vs_disk.specs.Names.{SameAt}
 use Rattle.vs_disk.specs.Runs.{Runs}
 use Rattle.vs_disk.proofs.Runs.{runs_as}
 use Rattle.vs_pages.specs.Maps.{Map}
+use Rattle.vs_pages.specs.Memory.{state_of}
 use Rattle.vs_pages.specs.State.{Commits}
 use Rattle.vs_pages.specs.declared.memory.MemPages.{MemPages}
 use Rattle.vs_tree.specs.Texts.{HasText}
@@ -23,8 +24,11 @@ use Rattle.vs_backup.proofs.Choosing.{IsBackupName-lettered, IsBackupName-plain,
 use Rattle.vs_backup.proofs.NamesApart.{backup_apart, file_apart, temporary_apart}
 use Rattle.vs_pair.specs.declared.side.Side.{Side}
 use Rattle.vs_pair.specs.declared.side.Side.TheVariants.{Swp, Swo}
-use Rattle.vs_pair.specs.Pair.{is_swap, name_of}
+use Rattle.vs_pair.specs.Pair.{IsFit, Known, held_in, is_swap, known_of, known_with, name_of}
+use Rattle.vs_pair.specs.declared.pair.SwapPair.{SwapPair}
 use Rattle.vs_pair.proofs.FitLemmas.{at_side}
+use Rattle.vs_pair.proofs.HeldLemmas.{held_since}
+use Rattle.vs_pair.proofs.Others.{fit_changed}
 use Rattle.vs_safety.specs.Texts.{Sync, Text, recoverable}
 use Rattle.vs_paged.specs.Fits.{Fits, names_of}
 use Rattle.vs_paged.specs.Pages.{IsPaged}
@@ -106,7 +110,7 @@ module _ (names : Names) (are : AreNames names) where
 
 -- ---- the text and its swap files
 
-pub paged_same : (told : Bool) (p q : MemPages) (t u : LineTree) (text : Text) → IsTrue told → SamePages told p q t u → IsPaged p t text → IsPaged q u text
+paged_same : (told : Bool) (p q : MemPages) (t u : LineTree) (text : Text) → IsTrue told → SamePages told p q t u → IsPaged (state_of p) t text → IsPaged (state_of q) u text
 paged_same told p q t u text is same paged = record {
   present = has_same (λ x. x.present) (same.present is) paged.present;
   committed = has_same (λ x. x.committed) (same.committed is) paged.committed;
@@ -119,6 +123,23 @@ paged_same told p q t u text is same paged = record {
   where
     has_same : {m n : Map} (extent : LineTree → Extent) → n ≡ m → HasText m (extent t) text → HasText n (extent u) text
     has_same {m} {n} extent pages has = subst (λ (k : Map). HasText k (extent u) text) (sym pages) (subst (λ (x : LineTree). HasText m (extent x) text) (sym same.tree) has)
+
+-- calls that leave the swap files, and the pages that are shown
+pub fits_written : (told : Bool) (old new : PagedText) (was now : Disk) (text : Text) (syncs : List Sync) → IsTrue told → known_of new.pair now ≡ known_with old.pair.files (held_in new.pair now)
+    → SamePages told old.pair.pages new.pair.pages old.tree new.tree → SameAt (is_swap (names_of old)) was now → Fits old was text syncs → Fits new now text syncs
+fits_written told old new was now text syncs is known same spared fits =
+    let kept = fits_kept old was now text syncs spared fits in
+    let pair : SwapPair = record old.pair { pages = new.pair.pages } in
+    let fit : IsFit (known_of pair now) now kept.newest kept.later kept.past =
+    fit_changed old.pair pair now kept.newest kept.later kept.past refl (held_since old.pair.pages new.pair.pages same.since) kept.fit in
+    record {
+      pages = paged_same told old.pair.pages new.pair.pages old.tree new.tree text is same fits.pages;
+      newest = kept.newest;
+      later = kept.later;
+      past = kept.past;
+      fit = subst (λ (known : Known). IsFit known now kept.newest kept.later kept.past) (sym known) fit;
+      syncs_are = kept.syncs_are;
+    }
 
 module _ (paged : PagedText) (text : Text) (syncs : List Sync) (before after : Scene) (fits : Fits paged before.folder text syncs) (runs : Runs (SameAt (is_swap (names_of paged))) before after) where
   pub keeps_swap : Runs (KeepsSwap (names_of paged) (recoverable syncs)) before after

@@ -110,16 +110,16 @@ impl<'t, 'p, 'h, F: Folder> Desk for PagedDesk<'t, 'p, 'h, F> {
         self.pages.host.sync(name)
     }
 
+    fn sync_like(&mut self, model: &str, name: &str) -> Result<(), Failed> {
+        self.pages.host.sync_like(model, name)
+    }
+
     fn rename(&mut self, from: &str, to: &str) -> Result<(), Failed> {
         self.pages.host.rename(from, to)
     }
 
     fn remove(&mut self, name: &str) -> Result<(), Failed> {
         self.pages.host.remove(name)
-    }
-
-    fn take_mode(&mut self, from: &str, to: &str) {
-        self.pages.host.take_mode(from, to);
     }
 
     fn sync_names(&mut self) -> Result<(), Failed> {

@@ -10,6 +10,7 @@ ghost use Rattle.vs_pages.specs.declared.memory.MemPages.{MemPages};
 ghost use Rattle.vs_text.specs.Documents.{file_in};
 ghost use Rattle.vs_tree.specs.Texts.{worked_by};
 ghost use Rattle.vs_backup.specs.Backups.{IsNoName, WorksOn, backs_up};
+ghost use Rattle.vs_backup.specs.Modes.{RewritesLike};
 ghost use Rattle.vs_backup.specs.Works.{SparesOthers};
 ghost use Rattle.vs_backup.specs.Writing.{FailsNoEarlier, IsFailed, OldIn};
 ghost use Rattle.vs_backup.specs.declared.errors.Place.TheVariants.{Nowhere};
@@ -42,16 +43,17 @@ fn write_in<F: Folder>(
 ) -> Result<u64, WriteErr>
     requires bounded { IsBounded tree.old }
     requires names { AreNames names.now }
-    requires paged { IsTrue F.tells.folder → (text : Text) × IsPaged pages.old tree.old text }
-    ensures written { IsTrue F.tells.folder → (text : Text) → IsPaged pages.old tree.old text
+    requires paged { IsTrue F.tells.folder → (text : Text) × IsPaged (state_of pages.old) tree.old text }
+    ensures written { IsTrue F.tells.folder → (text : Text) → IsPaged (state_of pages.old) tree.old text
         → WritesFile options.now names.now (file_in options.now.format text) (F.scene host.old) (F.scene host.new) result }
     ensures no_name { IsErrOf result WriteErr.NoBackupName → IsNoName options.now names.now.file F.tells.folder (F.scene host.old).folder }
-    ensures calls { IsTrue F.tells.folder → (text : Text) → IsPaged pages.old tree.old text
+    ensures calls { IsTrue F.tells.folder → (text : Text) → IsPaged (state_of pages.old) tree.old text
         → FailsNoEarlier names.now.file (file_in options.now.format text) (F.scene host.old) (F.scene host.new) result }
     ensures unseen { IsTrue F.tells.folder → IsSome (content_of (F.scene host.old) names.now.file) → backs_up options.now ≡ true → OldIn Nowhere result
         → IsTold Looked (names.now.file ∷ []) result (F.scene host.old) (F.scene host.new) }
     ensures others { IsTrue F.tells.folder →
         SparesOthers (WorksOn options.now names.now.file (F.scene host.old).folder) (F.scene host.old) (F.scene host.new) }
+    ensures modes { RewritesLike F.tells names.now.file (F.scene host.old) (F.scene host.new) }
     ensures same { SamePages F.tells.folder pages.old pages.new tree.old tree.new }
     ensures above { IsTrue F.tells.folder → NoneAbove (F.scene host.old) (F.scene host.new) }
     ensures frame { ChangesFolder (F.scene host.old) (F.scene host.new) }
@@ -90,6 +92,9 @@ pub fn write_text<F: Folder>(
         → Runs (KeepsSwap (names_of text.old) (recoverable syncs)) (F.scene host.old) (F.scene host.new) }
     ensures fits { IsTrue F.tells.folder → (lines : Text) (syncs : List Sync) → Fits text.old (F.scene host.old).folder lines syncs
         → Fits text.new (F.scene host.new).folder lines syncs }
+
+    // Who may read what it makes, where a file is there: those who may read that, or its owner alone.
+    ensures modes { RewritesLike F.tells (names_of text.old).file (F.scene host.old) (F.scene host.new) }
 
     // All names on which the write does not work.
     ensures others { IsTrue F.tells.folder

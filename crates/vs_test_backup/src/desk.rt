@@ -91,10 +91,6 @@ impl<F: Folder> Desk for TextDesk<F> {
         self.folder.create_private(name)
     }
 
-    fn take_mode(&mut self, from: &str, to: &str) {
-        self.folder.take_mode(from, to);
-    }
-
     fn len(&mut self, name: &str) -> Result<u64, Failed> {
         self.folder.len(name)
     }
@@ -113,6 +109,10 @@ impl<F: Folder> Desk for TextDesk<F> {
 
     fn sync(&mut self, name: &str) -> Result<(), Failed> {
         self.folder.sync(name)
+    }
+
+    fn sync_like(&mut self, model: &str, name: &str) -> Result<(), Failed> {
+        self.folder.sync_like(model, name)
     }
 
     fn rename(&mut self, from: &str, to: &str) -> Result<(), Failed> {

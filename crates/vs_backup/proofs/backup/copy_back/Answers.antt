@@ -1,12 +1,16 @@
 use Rattle.std.proofs.Common.{◌≡◌, ◌∙◌, ℕ, List, Option, Some, IsTrue, ap}
 use Rattle.std.specs.Prelude.{is_some}
 use Rattle.vs_host.specs.File.{Cuts}
+use Rattle.vs_host.specs.Disk.{mode_in}
 use Rattle.vs_host.specs.World.{Scene, content_of}
 use Rattle.vs_disk.specs.Images.{IsSynced}
 use Rattle.vs_disk.proofs.Runs.{runs_as}
-use Rattle.vs_backup.specs.Works.{ChangesOne, Fills, one_name}
+use Rattle.vs_backup.specs.Works.{ChangesOne, Widens, one_name}
 use Rattle.vs_backup.proofs.Copying.{alone_content, cut_content}
-use Rattle.vs_backup.proofs.Filling.{changes_on, changes_same, fills_cut, fills_same, fills_then}
+use Rattle.vs_backup.proofs.Filling.{changes_on, changes_same, fills_changes, fills_cut, widens_then}
+use Rattle.vs_backup.proofs.Kept.{fills_widens}
+use Rattle.vs_backup.proofs.Modes.{makes_filled, makes_looks}
+use Rattle.vs_backup.proofs.Returning.{widens_same}
 use Rattle.vs_backup.proofs.Frames.{alone_file, content_spared, err_is, err_leads, ok_leads, spares_file}
 use Rattle.vs_backup.proofs.Going as going
 use Rattle.vs_backup.proofs.backup.copy_back.Goals as goal
@@ -45,7 +49,7 @@ returns-clause-runs g c told =
     let s0 : Scene = g.D.World.scene c.args.desk.now in
     let s1 : Scene = g.D.World.scene c.empty_file.new.desk in
     let s2 : Scene = g.D.World.scene c.fill_copy.new.desk in
-    changes_on c.args.to.now s0 s1 s2 c.empty_file.ensures.kept.frame (c.in_ok-empty_file.ensures.ok.runs told) (c.fill_copy.ensures.runs told)
+    changes_on c.args.to.now s0 s1 s2 c.empty_file.ensures.kept.frame (fills_changes c.args.to.now s0 s1 (c.in_ok-empty_file.ensures.ok.runs told)) (c.fill_copy.ensures.runs told)
 
 pub returns-clause-ok : goal.returns-clause-ok
 returns-clause-ok g c =
@@ -63,16 +67,29 @@ pub returns-in_err-empty_file-clause-err : goal.returns-in_err-empty_file-clause
 returns-in_err-empty_file-clause-err g c =
     let s0 : Scene = g.D.World.scene c.args.desk.now in
     let s1 : Scene = g.D.World.scene c.empty_file.new.desk in
-    err_is (IsTrue g.D.World.tells.folder → Fills c.args.to.now s0.folder s1.folder) c.from_residual.result
-    (λ told. fills_same c.args.to.now s0.folder s1.folder (c.in_err-empty_file.ensures.err.looks told).now)
+    err_is (IsTrue g.D.World.tells.folder → Widens c.args.to.now s0.folder s1.folder) c.from_residual.result
+    (λ told. widens_same c.args.to.now s0.folder s1.folder (c.in_err-empty_file.ensures.err.looks told).now)
 
 pub returns-clause-err : goal.returns-clause-err
 returns-clause-err g c =
     let s0 : Scene = g.D.World.scene c.args.desk.now in
     let s1 : Scene = g.D.World.scene c.empty_file.new.desk in
     let s2 : Scene = g.D.World.scene c.fill_copy.new.desk in
-    err_leads (IsTrue g.D.World.tells.folder → Fills c.args.to.now s1.folder s2.folder) (IsTrue g.D.World.tells.folder → Fills c.args.to.now s0.folder s2.folder) c.fill_copy.result
-    (λ fills told. fills_then c.args.to.now s0.folder s1.folder s2.folder (fills_cut c.args.to.now s0.folder s1.folder (c.in_ok-empty_file.ensures.ok.cuts told)) (fills told)) c.fill_copy.ensures.err
+    err_leads (IsTrue g.D.World.tells.folder → Widens c.args.to.now s1.folder s2.folder) (IsTrue g.D.World.tells.folder → Widens c.args.to.now s0.folder s2.folder) c.fill_copy.result
+    (λ widens told. widens_then c.args.to.now s0.folder s1.folder s2.folder (fills_widens c.args.to.now s0.folder s1.folder (fills_cut c.args.to.now s0.folder s1.folder (c.in_ok-empty_file.ensures.ok.cuts told))) (widens told))
+    c.fill_copy.ensures.err
+
+pub returns-in_err-empty_file-clause-modes : goal.returns-in_err-empty_file-clause-modes
+returns-in_err-empty_file-clause-modes g c =
+    let s0 : Scene = g.D.World.scene c.args.desk.now in
+    makes_looks g.D.World.tells.folder (mode_in s0.folder c.args.from.now) s0 (g.D.World.scene c.empty_file.new.desk) c.in_err-empty_file.ensures.err.looks
+
+pub returns-clause-modes : goal.returns-clause-modes
+returns-clause-modes g c =
+    let s0 : Scene = g.D.World.scene c.args.desk.now in
+    let s1 : Scene = g.D.World.scene c.empty_file.new.desk in
+    let s2 : Scene = g.D.World.scene c.fill_copy.new.desk in
+    makes_filled g.D.World.tells.folder c.args.to.now c.args.from.now s0 s1 s2 c.empty_file.ensures.kept.frame c.in_ok-empty_file.ensures.ok.runs c.fill_copy.ensures.modes
 
 pub returns-clause-kept : goal.returns-clause-kept
 returns-clause-kept g c = going.GoesOn-then g.met.D.Desk.stays_on (λ is. absurd (cc)) c.in_ok-empty_file.ensures.kept c.fill_copy.ensures.kept

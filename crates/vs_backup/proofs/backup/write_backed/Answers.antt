@@ -1,12 +1,14 @@
 use Rattle.std.proofs.Common.{◌≡◌, ◌∙◌, ℕ, IsTrue, Result, Err, sym, ap, subst}
 use Rattle.std.proofs.lemmas.Result.{err_from_is_err_and}
 use Rattle.vs_text.specs.Documents.{file_in}
+use Rattle.vs_host.specs.Disk.{mode_in}
 use Rattle.vs_host.specs.World.{Scene}
 use Rattle.vs_backup.specs.Works.{IsGone}
 use Rattle.vs_backup.specs.Writing.{FailsNoEarlier, WritesBacked}
 use Rattle.vs_disk.proofs.Runs.{fails_none}
 use Rattle.vs_backup.specs.declared.errors.WriteErr.{WriteErr}
 use Rattle.vs_backup.proofs.Backed.{backed_refused, backed_kept, backed_removed, gone_unless_risen, holds_there}
+use Rattle.vs_backup.proofs.Modes.{makes_any, makes_then}
 use Rattle.vs_backup.proofs.Doing as doing
 use Rattle.vs_backup.proofs.backup.write_backed.Goals as goal
 
@@ -64,3 +66,7 @@ returns-clause-calls g c told text has =
     let s1 : Scene = g.D.World.scene c.write_over.new.desk in
     let had = c.requires.settled told in
     doing.written_then c.args.backing.name.now (file_in c.args.backing.format text) s0 s1 (g.D.World.scene c.drop_name.new.desk) c.in_ok-size.size (g.D.World.newest c.write_over.new.desk told) (c.in_ok-size.ensures.quiet told) (c.in_ok-size.ensures.over told had.0 had.1 text has).written.1 (c.drop_name.ensures.kept.stops.last told)
+
+pub returns-clause-modes : goal.returns-clause-modes
+returns-clause-modes g c =
+    makes_then c.write_over.ensures.kept.frame c.write_over.ensures.modes (makes_any (mode_in (g.D.World.scene c.args.desk.now).folder c.args.backing.name.now) c.drop_name.ensures.modes)

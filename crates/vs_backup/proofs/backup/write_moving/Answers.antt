@@ -1,15 +1,15 @@
-use Rattle.std.proofs.Common.{[], ◌∷◌, ℕ, List, IsTrue, false, Err, refl, sym, subst}
+use Rattle.std.proofs.Common.{◌≡◌, ◌∙◌, [], ◌∷◌, ℕ, List, IsTrue, false, Err, refl, sym, subst}
 use Rattle.std.proofs.lemmas.Bool.{true≢false}
 use Rattle.vs_faults.specs.Faults.{HasCause}
 use Rattle.vs_faults.proofs.Causes.{HasCause-trans}
 use Rattle.vs_text.specs.Documents.{file_in}
-use Rattle.vs_host.specs.Disk.{Disk}
+use Rattle.vs_host.specs.Disk.{Disk, mode_in}
 use Rattle.vs_host.specs.Trace.{Renamed}
 use Rattle.vs_host.specs.World.{Scene}
 use Rattle.vs_disk.specs.Images.{HoldsBytes, IsSynced}
-use Rattle.vs_disk.proofs.Runs.{one_call}
+use Rattle.vs_disk.proofs.Runs.{frames, one_call}
 use Rattle.vs_disk.proofs.Contents.{not_there}
-use Rattle.vs_backup.specs.Works.{IsGone, LeadsTo, Spares, StandsUnder, Widens, two_names}
+use Rattle.vs_backup.specs.Works.{IsGone, LeadsTo, Spares, StandsUnder, Widens, one_name, two_names}
 use Rattle.vs_backup.specs.Writing.{IsFailed, IsKept, IsSettled, PutsBack, Replaces, WritesOver}
 use Rattle.vs_backup.specs.declared.errors.Place.TheVariants as place
 use Rattle.vs_backup.specs.declared.errors.WriteErr.{WriteErr}
@@ -20,6 +20,7 @@ use Rattle.vs_backup.proofs.Copying.{only_file, over_not_begun}
 use Rattle.vs_backup.proofs.Places.{leads_settled, under_still}
 use Rattle.vs_backup.proofs.Replacing.{replaces_takes}
 use Rattle.vs_backup.proofs.Moving.{anew_done, anew_stopped, moving_done, moving_stopped}
+use Rattle.vs_backup.proofs.Modes.{makes_as, makes_renamed, makes_then, mode_renamed, mode_spared}
 use Rattle.vs_backup.proofs.Doing as doing
 use Rattle.vs_backup.proofs.Going as going
 use Rattle.vs_backup.proofs.backup.write_moving.Goals as goal
@@ -36,6 +37,8 @@ returns-in-Ok-write_anew-clause-over g c told old is text has =
     let done = c.in-Ok-write_anew.ensures.ok.each told text kept in
     moving_done name backup old (file_in c.args.backing.format text) s0 s1 s2 is c.rename.ensures.kept.frame c.rename.result (c.rename.ensures.told told) renames c.in-Ok-write_anew.size
     c.args.backing.temporary.now c.requires.names.differ_name (g.D.World.is_folder c.write_anew.new.desk told)
+    ((c.in-Ok-write_anew.ensures.mode.takes (λ e. c.requires.names.differ_name (sym e))).same told
+    (synced_there backup old s1.folder (record { number = is.synced.number; leads = (guard_moved name backup old s0.folder s1.folder is renames).now; has = (guard_moved name backup old s0.folder s1.folder is renames).held.has })))
     (anew_done name backup is.synced.number c.in-Ok-write_anew.size old (file_in c.args.backing.format text) s1 s2
     (c.write_anew.ensures.anew.each told is.synced.number old (λ e. c.requires.names.differ_name (sym e)) (guard_moved name backup old s0.folder s1.folder is renames)) done.0 done.1)
 
@@ -136,3 +139,40 @@ returns-in-Err-clause-refused g c told =
 
 pub take_name-requires-clause-differ : goal.take_name-requires-clause-differ
 take_name-requires-clause-differ g c e = c.requires.names.differ_name (sym e)
+
+pub returns-in-Ok-write_anew-clause-modes : goal.returns-in-Ok-write_anew-clause-modes
+returns-in-Ok-write_anew-clause-modes g c =
+    let name = c.args.backing.name.now in
+    let backup = c.args.backing.backup.now in
+    let s0 : Scene = g.D.World.scene c.args.desk.now in
+    let s1 : Scene = g.D.World.scene c.rename.new.self in
+    makes_then c.rename.ensures.kept.frame
+    (makes_renamed g.D.World.tells.folder Renamed (name ∷ backup ∷ []) c.rename.result s0 s1 c.rename.ensures.kept.frame c.rename.ensures.told name backup c.rename.ensures.ok c.rename.ensures.err)
+    (makes_as (mode_in s1.folder backup) (mode_in s0.folder name) (λ is. mode_renamed name backup s0.folder s1.folder (c.in-Ok.ensures.ok is)) (c.write_anew.ensures.anew.modes (λ e. c.requires.names.differ_name (sym e))))
+
+pub returns-in-Err-write_anew-clause-modes : goal.returns-in-Err-write_anew-clause-modes
+returns-in-Err-write_anew-clause-modes g c =
+    let name = c.args.backing.name.now in
+    let backup = c.args.backing.backup.now in
+    let differ = λ (e : backup ≡ name). c.requires.names.differ_name (sym e) in
+    let s0 : Scene = g.D.World.scene c.args.desk.now in
+    let s1 : Scene = g.D.World.scene c.rename.new.self in
+    let s2 : Scene = g.D.World.scene c.write_anew.new.desk in
+    makes_then (frames s0 s1 s2 c.rename.ensures.kept.frame c.write_anew.ensures.kept.frame)
+    (makes_then c.rename.ensures.kept.frame
+    (makes_renamed g.D.World.tells.folder Renamed (name ∷ backup ∷ []) c.rename.result s0 s1 c.rename.ensures.kept.frame c.rename.ensures.told name backup c.rename.ensures.ok c.rename.ensures.err)
+    (makes_as (mode_in s1.folder backup) (mode_in s0.folder name) (λ is. mode_renamed name backup s0.folder s1.folder (c.in-Ok.ensures.ok is)) (c.write_anew.ensures.anew.modes differ)))
+    (makes_as (mode_in s2.folder backup) (mode_in s0.folder name)
+    (λ is.
+    let had = c.requires.settled is in
+    let made = c.write_anew.ensures.anew.each is had.1.synced.number had.0 differ (guard_moved name backup had.0 s0.folder s1.folder had.1 (c.in-Ok.ensures.ok is)) in
+    mode_spared (one_name name) backup s1.folder s2.folder differ made.spares.now ∙ mode_renamed name backup s0.folder s1.folder (c.in-Ok.ensures.ok is))
+    c.take_name.ensures.modes)
+
+pub returns-in-Err-clause-modes : goal.returns-in-Err-clause-modes
+returns-in-Err-clause-modes g c =
+    let name = c.args.backing.name.now in
+    let backup = c.args.backing.backup.now in
+    let s0 : Scene = g.D.World.scene c.args.desk.now in
+    let s1 : Scene = g.D.World.scene c.rename.new.self in
+    makes_renamed g.D.World.tells.folder Renamed (name ∷ backup ∷ []) c.rename.result s0 s1 c.rename.ensures.kept.frame c.rename.ensures.told name backup c.rename.ensures.ok c.rename.ensures.err

@@ -1,5 +1,6 @@
 use Rattle.std.proofs.Common.{◌∙◌, refl}
 use Rattle.vs_text.specs.Documents.{file_in}
+use Rattle.vs_host.specs.Disk.{mode_in}
 use Rattle.vs_host.specs.World.{Scene}
 use Rattle.vs_disk.proofs.Contents.{some_content}
 use Rattle.vs_backup.specs.Writing.{backed_names}
@@ -9,6 +10,7 @@ use Rattle.vs_backup.proofs.Backed.{backed_not_begun, backed_after, file_named, 
 use Rattle.vs_backup.proofs.Copying.{only_file}
 use Rattle.vs_backup.proofs.Following.{narrowed_now}
 use Rattle.vs_backup.proofs.Others.{others_settled}
+use Rattle.vs_backup.proofs.Modes.{makes_narrowed, makes_settled}
 use Rattle.vs_backup.proofs.Doing as doing
 use Rattle.vs_backup.proofs.backup.write_with_backup.Goals as goal
 
@@ -54,3 +56,13 @@ returns-in-Err-clause-calls g c told text has =
     let s0 : Scene = g.D.World.scene c.args.desk.now in
     let s1 : Scene = g.D.World.scene c.settle.new.desk in
     record { done = tt; refused = doing.refused_at g.D.World.tells place.File (λ e. cc) s0 s1 told refl c.in-Err.ensures.kept.stops c.in-Err.ensures.kept.cause }
+
+pub returns-in-Ok-clause-modes : goal.returns-in-Ok-clause-modes
+returns-in-Ok-clause-modes g c =
+    makes_settled g.D.World.tells.folder c.args.backing.name.now (g.D.World.scene c.args.desk.now) (g.D.World.scene c.settle.new.desk) (g.D.World.scene c.write_backed.new.desk)
+    c.settle.ensures.kept.frame c.settle.ensures.settles.narrowed c.write_backed.ensures.modes
+
+pub returns-in-Err-clause-modes : goal.returns-in-Err-clause-modes
+returns-in-Err-clause-modes g c =
+    let s0 : Scene = g.D.World.scene c.args.desk.now in
+    makes_narrowed g.D.World.tells.folder (mode_in s0.folder c.args.backing.name.now) s0 (g.D.World.scene c.settle.new.desk) c.settle.ensures.settles.narrowed

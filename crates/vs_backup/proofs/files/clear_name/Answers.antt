@@ -1,4 +1,4 @@
-use Rattle.std.proofs.Common.{◌≡◌, [], ◌∷◌, IsTrue, ap, subst}
+use Rattle.std.proofs.Common.{◌≡◌, [], ◌∷◌, None, IsTrue, ap, subst}
 use Rattle.vs_host.specs.Disk.{Disk, Removes, ChangesNames}
 use Rattle.vs_host.specs.Trace.{Looked, Removed}
 use Rattle.vs_host.specs.World.{Scene}
@@ -6,6 +6,7 @@ use Rattle.vs_disk.proofs.Runs.{call_on, one_call, one_look, reads_change, runs_
 use Rattle.vs_backup.specs.Works.{KeepsStates, Renews, Spares, one_name}
 use Rattle.vs_backup.proofs.Calls.{looked_at}
 use Rattle.vs_backup.proofs.Frames.{either, spares_same, spares_then, spares_removed}
+use Rattle.vs_backup.proofs.Modes.{makes_looks, makes_removed, makes_then}
 use Rattle.vs_backup.proofs.Renewing.{renews_removed, renews_same, states_changed, states_same}
 use Rattle.vs_backup.proofs.Going as going
 use Rattle.vs_backup.proofs.files.clear_name.Goals as goal
@@ -87,3 +88,24 @@ returns-clause-states g c told =
     let s0 : Scene = g.D.World.scene c.args.desk.now in
     let s1 : Scene = g.D.World.scene c.has.new.self in
     states_same s0.folder s1.folder (ap (λ (s : Scene). s.folder) c.has.ensures.kept.frame)
+
+pub returns-in_err-has-clause-modes : goal.returns-in_err-has-clause-modes
+returns-in_err-has-clause-modes g c =
+    let s0 : Scene = g.D.World.scene c.args.desk.now in
+    let s1 : Scene = g.D.World.scene c.has.new.self in
+    makes_looks g.D.World.tells.folder None s0 s1 (λ told. one_look Looked (c.args.name.now ∷ []) c.has.result s0 s1 c.has.ensures.kept.frame (c.has.ensures.told told))
+
+pub returns-then-branch-clause-modes : goal.returns-then-branch-clause-modes
+returns-then-branch-clause-modes g c =
+    let s0 : Scene = g.D.World.scene c.args.desk.now in
+    let s1 : Scene = g.D.World.scene c.has.new.self in
+    let s2 : Scene = g.D.World.scene c.remove.new.self in
+    makes_then (reads_change s0 s1 c.has.ensures.kept.frame)
+    (makes_looks g.D.World.tells.folder None s0 s1 (λ told. one_look Looked (c.args.name.now ∷ []) c.has.result s0 s1 c.has.ensures.kept.frame (c.has.ensures.told told)))
+    (makes_removed g.D.World.tells.folder None Removed (c.args.name.now ∷ []) c.remove.result s1 s2 c.remove.ensures.kept.frame c.remove.ensures.told c.args.name.now c.remove.ensures.ok c.remove.ensures.err)
+
+pub returns-clause-modes : goal.returns-clause-modes
+returns-clause-modes g c =
+    let s0 : Scene = g.D.World.scene c.args.desk.now in
+    let s1 : Scene = g.D.World.scene c.has.new.self in
+    makes_looks g.D.World.tells.folder None s0 s1 (λ told. one_look Looked (c.args.name.now ∷ []) c.has.result s0 s1 c.has.ensures.kept.frame (c.has.ensures.told told))

@@ -1,4 +1,4 @@
-use Rattle.std.proofs.Common.{◌≡◌, [], ◌∷◌, IsTrue}
+use Rattle.std.proofs.Common.{◌≡◌, [], ◌∷◌, None, IsTrue}
 use Rattle.vs_host.specs.Disk.{SyncsNames}
 use Rattle.vs_host.specs.Trace.{Removed, SyncedNames}
 use Rattle.vs_host.specs.World.{Scene}
@@ -6,6 +6,7 @@ use Rattle.vs_disk.proofs.Runs.{one_call, call_on}
 use Rattle.vs_disk.proofs.Steps.{gone_for_good}
 use Rattle.vs_backup.specs.Works.{Drops, IsGone, LeadsNowhereElse, Spares, one_name}
 use Rattle.vs_backup.proofs.Frames.{either, spares_same, spares_then, spares_removed, spares_synced, ok_leads}
+use Rattle.vs_backup.proofs.Modes.{makes_removed, makes_synced, makes_then}
 use Rattle.vs_backup.proofs.Renewing.{nowhere_removed, nowhere_same, nowhere_synced, nowhere_then}
 use Rattle.vs_backup.proofs.Replacing.{drops_removed, drops_same, drops_synced, drops_then}
 use Rattle.vs_backup.proofs.Going as going
@@ -76,3 +77,18 @@ returns-clause-gone g c =
 
 pub returns-clause-kept : goal.returns-clause-kept
 returns-clause-kept g c = going.GoesOn-then g.met.D.Desk.stays_on (λ is. absurd (cc)) c.in_ok-remove.ensures.kept c.sync_names.ensures.kept
+
+pub returns-in_err-remove-clause-modes : goal.returns-in_err-remove-clause-modes
+returns-in_err-remove-clause-modes g c =
+    let s0 : Scene = g.D.World.scene c.args.desk.now in
+    let s1 : Scene = g.D.World.scene c.remove.new.self in
+    makes_removed g.D.World.tells.folder None Removed (c.args.name.now ∷ []) c.remove.result s0 s1 c.remove.ensures.kept.frame c.remove.ensures.told c.args.name.now c.remove.ensures.ok c.remove.ensures.err
+
+pub returns-clause-modes : goal.returns-clause-modes
+returns-clause-modes g c =
+    let s0 : Scene = g.D.World.scene c.args.desk.now in
+    let s1 : Scene = g.D.World.scene c.remove.new.self in
+    let s2 : Scene = g.D.World.scene c.sync_names.new.self in
+    makes_then c.remove.ensures.kept.frame
+    (makes_removed g.D.World.tells.folder None Removed (c.args.name.now ∷ []) c.remove.result s0 s1 c.remove.ensures.kept.frame c.remove.ensures.told c.args.name.now c.remove.ensures.ok c.remove.ensures.err)
+    (makes_synced g.D.World.tells.folder None SyncedNames [] c.sync_names.result s1 s2 c.sync_names.ensures.kept.frame c.sync_names.ensures.told c.sync_names.ensures.ok c.sync_names.ensures.err)

@@ -6,8 +6,8 @@ use Rattle.vs_host.specs.Trace.{Cut}
 use Rattle.vs_host.specs.World.{Scene}
 use Rattle.vs_disk.proofs.Contents.{some_content}
 use Rattle.vs_disk.proofs.Runs.{one_call}
-use Rattle.vs_backup.specs.Works.{ChangesOne, Empties, Unchanged}
-use Rattle.vs_backup.proofs.Filling.{changes_by}
+use Rattle.vs_backup.specs.Works.{Empties, Fills, Unchanged}
+use Rattle.vs_backup.proofs.Filling.{fills_cut}
 use Rattle.vs_backup.proofs.Frames.{ok_leads, err_leads}
 use Rattle.vs_backup.proofs.files.empty_file.Goals as goal
 
@@ -19,7 +19,7 @@ returns-clause-ok g c =
     ok_leads (IsTrue g.D.World.tells.folder → ChangesFile name (Cuts 0) s0.folder s1.folder) (Empties g.D.World.tells.folder name s0 s1) c.cut.result
     (λ ok. record {
       folder = λ told. g.D.World.is_folder c.args.desk.now told;
-      runs = λ told. one_call (ChangesOne name) Cut (name ∷ []) c.cut.result s0 s1 c.cut.ensures.kept.frame (c.cut.ensures.told told) (changes_by name (Cuts 0) s0.folder s1.folder (ok told));
+      runs = λ told. one_call (Fills name) Cut (name ∷ []) c.cut.result s0 s1 c.cut.ensures.kept.frame (c.cut.ensures.told told) (fills_cut name s0.folder s1.folder (ok told));
       cuts = ok;
     })
     c.cut.ensures.ok

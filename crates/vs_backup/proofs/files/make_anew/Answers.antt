@@ -5,6 +5,7 @@ use Rattle.vs_host.specs.World.{Scene}
 use Rattle.vs_disk.proofs.Runs.{call_on, one_call, runs_then}
 use Rattle.vs_backup.specs.Works.{HasNew, IsAlone, Renews, Spares, one_name}
 use Rattle.vs_backup.proofs.Frames.{either, spares_same, spares_then, spares_created, alone_created, ok_leads}
+use Rattle.vs_backup.proofs.Modes.{for_after, for_any}
 use Rattle.vs_backup.proofs.Renewing.{new_created}
 use Rattle.vs_backup.proofs.Going as going
 use Rattle.vs_backup.proofs.files.make_anew.Goals as goal
@@ -51,3 +52,11 @@ returns-clause-anew g c =
     let s2 : Scene = g.D.World.scene c.create_for.new.desk in
     ok_leads (IsTrue g.D.World.tells.folder → CreatesFile c.args.name.now s1.folder s2.folder) (IsTrue g.D.World.tells.folder → HasNew c.args.name.now s0.folder s2.folder) c.create_for.result
     (λ creates told. new_created c.args.name.now s0.folder s1.folder s2.folder (c.clear_name.ensures.states told) (creates told)) c.create_for.ensures.ok
+
+pub returns-in_err-clear_name-clause-modes : goal.returns-in_err-clear_name-clause-modes
+returns-in_err-clear_name-clause-modes g c = for_any c.args.readers g.D.World.tells.folder (g.D.World.scene c.args.desk.now) (g.D.World.scene c.clear_name.new.desk) c.clear_name.ensures.modes
+
+pub returns-clause-modes : goal.returns-clause-modes
+returns-clause-modes g c =
+    for_after c.args.readers g.D.World.tells.folder (g.D.World.scene c.args.desk.now) (g.D.World.scene c.clear_name.new.desk) (g.D.World.scene c.create_for.new.desk)
+    c.clear_name.ensures.kept.frame c.clear_name.ensures.modes c.create_for.ensures.modes

@@ -1,16 +1,18 @@
-use Rattle.std.proofs.Common.{◌≡◌, [], ◌∷◌, ℕ, List, IsTrue, sym, subst}
-use Rattle.vs_host.specs.Disk.{Disk, SyncsNames}
+use Rattle.std.proofs.Common.{◌≡◌, ◌∙◌, [], ◌∷◌, ℕ, List, IsTrue, sym, subst}
+use Rattle.vs_host.specs.Disk.{Disk, SyncsNames, mode_in}
 use Rattle.vs_host.specs.Trace.{Renamed, SyncedNames}
 use Rattle.vs_host.specs.World.{Scene}
 use Rattle.vs_disk.specs.Images.{IsSynced, Takes}
 use Rattle.vs_disk.proofs.Runs.{one_call, call_on, runs_as}
 use Rattle.vs_disk.proofs.Contents.{leads_to, takes_renamed, takes_then}
 use Rattle.vs_backup.specs.Writing.{IsSettled}
+use Rattle.vs_backup.specs.Modes.{TakesMode}
 use Rattle.vs_backup.specs.Works.{HandsOver, IsGone, IsHeld, LeadsNowhereElse, Spares, Widens, two_names}
 use Rattle.vs_backup.proofs.Frames.{either, spares_same, spares_then, spares_renamed, spares_synced, takes_spared, takes_same, ok_leads, err_leads, err_is, settled_now, synced_renamed}
 use Rattle.vs_backup.proofs.Copying.{kept_on}
 use Rattle.vs_backup.proofs.Returning.{hands_renamed, hands_same, hands_synced, held_renamed, held_same, held_synced, widens_renamed, widens_same}
 use Rattle.vs_backup.proofs.Replacing.{gone_renamed}
+use Rattle.vs_backup.proofs.Modes.{makes_renamed, makes_synced, makes_then, mode_renamed, mode_synced}
 use Rattle.vs_backup.proofs.Renewing.{nowhere_renamed, nowhere_same, nowhere_synced, nowhere_then}
 use Rattle.vs_backup.proofs.Going as going
 use Rattle.vs_backup.proofs.files.take_name.Goals as goal
@@ -159,3 +161,30 @@ returns-clause-leads g c told =
     either (IsTrue g.D.World.tells.folder → SyncsNames s1.folder s2.folder) (s2.folder ≡ s1.folder) (LeadsNowhereElse from s1.folder s2.folder) c.sync_names.result
     c.sync_names.ensures.ok c.sync_names.ensures.err (λ syncs. nowhere_synced from s1.folder s2.folder (syncs told)) (λ same. nowhere_same from s1.folder s2.folder same) in
     call_on (LeadsNowhereElse from) (nowhere_then from) SyncedNames [] c.sync_names.result s0 s1 s2 c.rename.ensures.kept.frame first c.sync_names.ensures.kept.frame here (c.sync_names.ensures.told told)
+
+pub returns-in_err-rename-clause-modes : goal.returns-in_err-rename-clause-modes
+returns-in_err-rename-clause-modes g c =
+    let s0 : Scene = g.D.World.scene c.args.desk.now in
+    let s1 : Scene = g.D.World.scene c.rename.new.self in
+    makes_renamed g.D.World.tells.folder Renamed (c.args.from.now ∷ c.args.to.now ∷ []) c.rename.result s0 s1 c.rename.ensures.kept.frame c.rename.ensures.told c.args.from.now c.args.to.now c.rename.ensures.ok c.rename.ensures.err
+
+pub returns-clause-modes : goal.returns-clause-modes
+returns-clause-modes g c =
+    let s0 : Scene = g.D.World.scene c.args.desk.now in
+    let s1 : Scene = g.D.World.scene c.rename.new.self in
+    let s2 : Scene = g.D.World.scene c.sync_names.new.self in
+    makes_then c.rename.ensures.kept.frame
+    (makes_renamed g.D.World.tells.folder Renamed (c.args.from.now ∷ c.args.to.now ∷ []) c.rename.result s0 s1 c.rename.ensures.kept.frame c.rename.ensures.told c.args.from.now c.args.to.now c.rename.ensures.ok c.rename.ensures.err)
+    (makes_synced g.D.World.tells.folder (mode_in s0.folder c.args.from.now) SyncedNames [] c.sync_names.result s1 s2 c.sync_names.ensures.kept.frame c.sync_names.ensures.told c.sync_names.ensures.ok c.sync_names.ensures.err)
+
+pub returns-clause-mode : goal.returns-clause-mode
+returns-clause-mode g c =
+    let told = g.D.World.tells.folder in
+    let s0 : Scene = g.D.World.scene c.args.desk.now in
+    let s1 : Scene = g.D.World.scene c.rename.new.self in
+    let s2 : Scene = g.D.World.scene c.sync_names.new.self in
+    ok_leads (IsTrue told → SyncsNames s1.folder s2.folder) (TakesMode told c.args.from.now c.args.to.now s0 s2) c.sync_names.result
+    (λ syncs. record {
+      same = λ is there. mode_synced c.args.to.now s1.folder s2.folder (syncs is) ∙ mode_renamed c.args.from.now c.args.to.now s0.folder s1.folder (c.in_ok-rename.ensures.ok is);
+    })
+    c.sync_names.ensures.ok

@@ -1,16 +1,20 @@
-use Rattle.std.proofs.Common.{◌≡◌, ◌∙◌, ◌+◌, ◌≤◌, [], ◌∷◌, ℕ, List, Some, IsTrue, length, take, sym, ap, subst, arith, refl}
+use Rattle.std.proofs.Common.{◌≡◌, ◌∙◌, ◌+◌, ◌≤◌, [], ◌∷◌, ℕ, List, Option, Some, IsTrue, length, take, sym, ap, subst, arith, refl}
+use Rattle.std.specs.Prelude.{is_some}
 use Rattle.std.proofs.lemmas.Grind.{common_steps}
-use Rattle.vs_host.specs.File.{Syncs}
-use Rattle.vs_host.specs.Disk.{Disk, content_in, ChangesFile}
+use Rattle.vs_host.specs.Disk.{Disk, content_in, mode_in}
 use Rattle.vs_host.specs.Trace.{Measured}
 use Rattle.vs_host.specs.World.{Scene, content_of}
 use Rattle.std.proofs.lemmas.List.{take_all}
 use Rattle.vs_disk.specs.Images.{IsSynced, KeepsImages}
 use Rattle.vs_disk.proofs.Runs.{one_look}
-use Rattle.vs_disk.proofs.Contents.{synced_content, of_bytes, some_bytes, some_content}
-use Rattle.vs_backup.specs.Works.{Fills, IsAlone, one_name}
+use Rattle.vs_disk.proofs.Contents.{of_bytes, some_bytes, some_content}
+use Rattle.vs_backup.specs.Modes.{TakesMode}
+use Rattle.vs_backup.specs.Works.{IsAlone, Widens, one_name}
 use Rattle.vs_backup.proofs.Frames.{err_is, err_leads, ok_leads, spares_file, alone_file, content_spared}
-use Rattle.vs_backup.proofs.Filling.{fills_changes, fills_on, fills_then, fills_same, looks_changes, looks_fills, sync_changes}
+use Rattle.vs_backup.proofs.Filling.{changes_on, fills_changes, fills_on, fills_then, looks_changes, looks_fills, widens_then}
+use Rattle.vs_backup.proofs.Kept.{fills_widens}
+use Rattle.vs_backup.proofs.Modes.{DoneLike, FailedLike, changes_answered, makes_answered, makes_filled, makes_fills, makes_looks, synced_done, takes_done, takes_filled, widens_failed}
+use Rattle.vs_backup.proofs.Returning.{widens_same}
 use Rattle.vs_backup.proofs.Going.{GoesOn-none, GoesOn-reads, GoesOn-then}
 use Rattle.vs_backup.proofs.Going as going
 use Rattle.vs_backup.proofs.fill.fill_copy.Goals as goal
@@ -73,20 +77,20 @@ returns-clause-runs g c told =
     let s0 : Scene = g.D.World.scene c.args.desk.now in
     let s1 : Scene = g.D.World.scene c.pieces.desk in
     let s2 : Scene = g.D.World.scene c.sync_like.new.desk in
-    sync_changes c.args.to.now (IsTrue g.D.World.tells.folder) c.sync_like.result s0 s1 s2 told c.pieces.invariant.kept.frame (fills_changes c.args.to.now s0 s1 (c.pieces.invariant.runs told)) c.sync_like.ensures.ok c.sync_like.ensures.err c.sync_like.ensures.kept.frame (c.sync_like.ensures.told told)
+    changes_on c.args.to.now s0 s1 s2 c.pieces.invariant.kept.frame (fills_changes c.args.to.now s0 s1 (c.pieces.invariant.runs told)) (changes_answered g.D.World.tells.folder c.args.to.now c.sync_like.result s1 s2 c.sync_like.ensures.kept.frame c.sync_like.ensures.told (Some c.args.from) c.sync_like.ensures.ok c.sync_like.ensures.err told)
 
 pub returns-clause-ok : goal.returns-clause-ok
 returns-clause-ok g c =
     let s0 : Scene = g.D.World.scene c.args.desk.now in
     let s1 : Scene = g.D.World.scene c.pieces.desk in
     let s2 : Scene = g.D.World.scene c.sync_like.new.desk in
-    ok_leads (IsTrue g.D.World.tells.folder → ChangesFile c.args.to.now Syncs s1.folder s2.folder)
+    ok_leads (IsTrue g.D.World.tells.folder → DoneLike (Some c.args.from) c.args.to.now s1.folder s2.folder)
     (IsTrue g.D.World.tells.folder → (bytes : List ℕ) → content_of s0 c.args.from.now ≡ Some bytes → IsSynced c.args.to.now bytes s2.folder) c.sync_like.result
-    (λ syncs told bytes is.
+    (λ done told bytes is.
     let had = c.pieces.invariant.copied told in
     let one : had.0 ≡ bytes = some_bytes had.0 bytes (sym had.1 ∙ is) in
     let all : take c.pieces.at had.0 ≡ had.0 = let past : length had.0 ≤ c.pieces.at = omega (arith, had.2) in take_all c.pieces.at had.0 past in
-    synced_content c.args.to.now bytes s1.folder s2.folder (syncs told) (had.3 ∙ ap (λ (b : List ℕ). Some b) (all ∙ one)))
+    (synced_done g.D.World.tells.folder (Some c.args.from) c.args.to.now s1 s2 done).synced told bytes (had.3 ∙ ap (λ (b : List ℕ). Some b) (all ∙ one)))
     c.sync_like.ensures.ok
 
 pub returns-in_err-copy_piece-clause-kept : goal.returns-in_err-copy_piece-clause-kept
@@ -99,21 +103,54 @@ pub returns-in_err-size-clause-err : goal.returns-in_err-size-clause-err
 returns-in_err-size-clause-err g c =
     let s0 : Scene = g.D.World.scene c.args.desk.now in
     let s1 : Scene = g.D.World.scene c.len.new.self in
-    err_is (IsTrue g.D.World.tells.folder → Fills c.args.to.now s0.folder s1.folder) c.from_residual.result
-    (λ told. fills_same c.args.to.now s0.folder s1.folder (ap (λ (s : Scene). s.folder) c.len.ensures.kept.frame))
+    err_is (IsTrue g.D.World.tells.folder → Widens c.args.to.now s0.folder s1.folder) c.from_residual.result
+    (λ told. widens_same c.args.to.now s0.folder s1.folder (ap (λ (s : Scene). s.folder) c.len.ensures.kept.frame))
 
 pub returns-in_err-copy_piece-clause-err : goal.returns-in_err-copy_piece-clause-err
 returns-in_err-copy_piece-clause-err g c =
     let s0 : Scene = g.D.World.scene c.args.desk.now in
     let s1 : Scene = g.D.World.scene c.pieces.desk in
     let s2 : Scene = g.D.World.scene c.copy_piece.new.desk in
-    err_is (IsTrue g.D.World.tells.folder → Fills c.args.to.now s0.folder s2.folder) c.from_residual-in_err-copy_piece.result
-    (λ told. fills_then c.args.to.now s0.folder s1.folder s2.folder (c.pieces.invariant.runs told).now (c.copy_piece.ensures.runs told).now)
+    err_is (IsTrue g.D.World.tells.folder → Widens c.args.to.now s0.folder s2.folder) c.from_residual-in_err-copy_piece.result
+    (λ told. fills_widens c.args.to.now s0.folder s2.folder (fills_then c.args.to.now s0.folder s1.folder s2.folder (c.pieces.invariant.runs told).now (c.copy_piece.ensures.runs told).now))
 
 pub returns-clause-err : goal.returns-clause-err
 returns-clause-err g c =
     let s0 : Scene = g.D.World.scene c.args.desk.now in
     let s1 : Scene = g.D.World.scene c.pieces.desk in
     let s2 : Scene = g.D.World.scene c.sync_like.new.desk in
-    err_leads (s2.folder ≡ s1.folder) (IsTrue g.D.World.tells.folder → Fills c.args.to.now s0.folder s2.folder) c.sync_like.result
-    (λ same told. fills_then c.args.to.now s0.folder s1.folder s2.folder (c.pieces.invariant.runs told).now (fills_same c.args.to.now s1.folder s2.folder same)) c.sync_like.ensures.err
+    err_leads (FailedLike (Some c.args.from) c.args.to.now s1.folder s2.folder) (IsTrue g.D.World.tells.folder → Widens c.args.to.now s0.folder s2.folder) c.sync_like.result
+    (λ failed told. widens_then c.args.to.now s0.folder s1.folder s2.folder (fills_widens c.args.to.now s0.folder s1.folder (c.pieces.invariant.runs told).now)
+    (widens_failed (Some c.args.from) c.args.to.now c.args.to.now s1.folder s2.folder failed)) c.sync_like.ensures.err
+
+pub returns-in_err-size-clause-modes : goal.returns-in_err-size-clause-modes
+returns-in_err-size-clause-modes g c =
+    let s0 : Scene = g.D.World.scene c.args.desk.now in
+    let s1 : Scene = g.D.World.scene c.len.new.self in
+    makes_looks g.D.World.tells.folder (mode_in s0.folder c.args.from.now) s0 s1 (λ told. one_look Measured (c.args.from.now ∷ []) c.len.result s0 s1 c.len.ensures.kept.frame (c.len.ensures.told told))
+
+pub returns-in_err-copy_piece-clause-modes : goal.returns-in_err-copy_piece-clause-modes
+returns-in_err-copy_piece-clause-modes g c =
+    let s0 : Scene = g.D.World.scene c.args.desk.now in
+    let s1 : Scene = g.D.World.scene c.pieces.desk in
+    let s2 : Scene = g.D.World.scene c.copy_piece.new.desk in
+    makes_fills g.D.World.tells.folder c.args.to.now (mode_in s0.folder c.args.from.now) s0 s2
+    (λ told. fills_on c.args.to.now s0 s1 s2 c.pieces.invariant.kept.frame (c.pieces.invariant.runs told) (c.copy_piece.ensures.runs told))
+
+pub returns-clause-modes : goal.returns-clause-modes
+returns-clause-modes g c =
+    let s0 : Scene = g.D.World.scene c.args.desk.now in
+    let s1 : Scene = g.D.World.scene c.pieces.desk in
+    let s2 : Scene = g.D.World.scene c.sync_like.new.desk in
+    makes_filled g.D.World.tells.folder c.args.to.now c.args.from.now s0 s1 s2 c.pieces.invariant.kept.frame c.pieces.invariant.runs
+    (makes_answered g.D.World.tells.folder c.args.to.now c.sync_like.result s1 s2 c.sync_like.ensures.kept.frame c.sync_like.ensures.told (Some c.args.from) c.sync_like.ensures.ok c.sync_like.ensures.err)
+
+pub returns-clause-mode : goal.returns-clause-mode
+returns-clause-mode g c =
+    let told = g.D.World.tells.folder in
+    let s0 : Scene = g.D.World.scene c.args.desk.now in
+    let s1 : Scene = g.D.World.scene c.pieces.desk in
+    let s2 : Scene = g.D.World.scene c.sync_like.new.desk in
+    ok_leads (IsTrue told → DoneLike (Some c.args.from) c.args.to.now s1.folder s2.folder) (TakesMode told c.args.from.now c.args.to.now s0 s2) c.sync_like.result
+    (λ done. takes_filled told c.args.to.now c.args.from.now c.args.to.now s0 s1 s2 c.pieces.invariant.runs
+    (takes_done told (Some c.args.from) c.args.to.now s1 s2 (λ is. ap (λ (o : Option (List ℕ)). is_some o) (c.pieces.invariant.copied is).3) done)) c.sync_like.ensures.ok

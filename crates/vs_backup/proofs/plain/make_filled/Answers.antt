@@ -1,12 +1,12 @@
-use Rattle.std.proofs.Common.{◌∙◌, ℕ, List, Option, refl, ap}
+use Rattle.std.proofs.Common.{ℕ, List, Option, refl, ap}
 use Rattle.std.specs.Prelude.{is_some}
 use Rattle.vs_host.specs.World.{Scene}
 use Rattle.vs_disk.proofs.Runs.{frames}
-use Rattle.vs_disk.specs.Images.{Changes}
 use Rattle.vs_backup.specs.Works.{one_name}
 use Rattle.vs_backup.proofs.Calls.{runs_file, spares_on}
 use Rattle.vs_backup.proofs.Copying.{alone_content}
-use Rattle.vs_backup.proofs.Frames.{alone_file}
+use Rattle.vs_backup.proofs.Frames.{alone_one}
+use Rattle.vs_backup.proofs.Modes.{makes_then, usual_then}
 use Rattle.vs_backup.proofs.Renewing.{nowhere_changed, renews_filled, renews_taken}
 use Rattle.vs_backup.proofs.Going as going
 use Rattle.vs_backup.proofs.plain.make_filled.Goals as goal
@@ -79,7 +79,7 @@ pub returns-in-Ok-clause-anew : goal.returns-in-Ok-clause-anew
 returns-in-Ok-clause-anew g c told number leads =
     let s1 : Scene = g.D.World.scene c.make_anew.new.desk in
     let s2 : Scene = g.D.World.scene c.fill_text.new.desk in
-    c.in_ok-make_anew.ensures.anew told number (nowhere_changed c.args.temporary.now c.args.temporary.now Changes s1.folder s2.folder (c.fill_text.ensures.runs told).now number leads)
+    c.in_ok-make_anew.ensures.anew told number (nowhere_changed c.args.temporary.now c.args.temporary.now s1.folder s2.folder (c.fill_text.ensures.runs told).now number leads)
 
 pub returns-in-Ok-clause-ok : goal.returns-in-Ok-clause-ok
 returns-in-Ok-clause-ok g c = record {
@@ -90,7 +90,7 @@ pub drop_name-requires-clause-there : goal.drop_name-requires-clause-there
 drop_name-requires-clause-there g c told =
     let s1 : Scene = g.D.World.scene c.make_anew.new.desk in
     let s2 : Scene = g.D.World.scene c.fill_text.new.desk in
-    let alone = alone_file c.args.temporary.now Changes s1.folder s2.folder (c.fill_text.ensures.runs told).now (c.in_ok-make_anew.ensures.alone told) in
+    let alone = alone_one c.args.temporary.now s1.folder s2.folder (c.fill_text.ensures.runs told).now (c.in_ok-make_anew.ensures.alone told) in
     ap (λ (o : Option (List ℕ)). is_some o) (alone_content c.args.temporary.now s2.folder alone)
 
 pub returns-in-Ok-clause-kept : goal.returns-in-Ok-clause-kept
@@ -109,3 +109,20 @@ returns-in_err-drop_name-in-Err-NoMemory-clause-kept g c =
     let filled = going.GoesOn-then g.met.D.Desk.stays_on (λ is. absurd (cc)) c.in_ok-make_anew.ensures.kept (rw c.in-Err-NoMemory.field-0-is at c.in-Err-NoMemory.ensures.kept) in
     let failed = c.from_residual-in_err-drop_name-in-Err-NoMemory in
     going.GoesOn-failed failed.result _ failed.ensures.1 refl (going.GoesOn-then g.met.D.Desk.stays_on (λ is. absurd (cc)) filled c.in_err-drop_name-in-Err-NoMemory.ensures.kept)
+
+pub returns-in_err-make_anew-clause-modes : goal.returns-in_err-make_anew-clause-modes
+returns-in_err-make_anew-clause-modes g c = c.make_anew.ensures.modes
+
+pub returns-in-Ok-clause-modes : goal.returns-in-Ok-clause-modes
+returns-in-Ok-clause-modes g c = usual_then c.make_anew.ensures.kept.frame c.make_anew.ensures.modes c.fill_text.ensures.modes
+
+pub returns-in-Err-Failed-clause-modes : goal.returns-in-Err-Failed-clause-modes
+returns-in-Err-Failed-clause-modes g c = usual_then c.make_anew.ensures.kept.frame c.make_anew.ensures.modes c.fill_text.ensures.modes
+
+pub returns-in_ok-drop_name-in-Err-NoMemory-clause-modes : goal.returns-in_ok-drop_name-in-Err-NoMemory-clause-modes
+returns-in_ok-drop_name-in-Err-NoMemory-clause-modes g c =
+    usual_then c.make_anew.ensures.kept.frame c.make_anew.ensures.modes (makes_then c.fill_text.ensures.kept.frame c.fill_text.ensures.modes c.drop_name.ensures.modes)
+
+pub returns-in_err-drop_name-in-Err-NoMemory-clause-modes : goal.returns-in_err-drop_name-in-Err-NoMemory-clause-modes
+returns-in_err-drop_name-in-Err-NoMemory-clause-modes g c =
+    usual_then c.make_anew.ensures.kept.frame c.make_anew.ensures.modes (makes_then c.fill_text.ensures.kept.frame c.fill_text.ensures.modes c.drop_name.ensures.modes)

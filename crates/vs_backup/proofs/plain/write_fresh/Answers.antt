@@ -4,6 +4,7 @@ use Rattle.vs_text.specs.Documents.{file_in}
 use Rattle.vs_host.specs.World.{Scene}
 use Rattle.vs_backup.proofs.Calls.{synced_there}
 use Rattle.vs_backup.proofs.Frames.{absent_now}
+use Rattle.vs_backup.proofs.Modes.{usual_renamed}
 use Rattle.vs_backup.proofs.Renewing.{renews_led}
 use Rattle.vs_backup.proofs.Unbacked.{fresh_not_taken, fresh_free, fresh_refused, fresh_done}
 use Rattle.vs_backup.proofs.Going as going
@@ -55,3 +56,13 @@ returns-in_err-take_name-clause-kept g c = going.GoesOn-failed c.from_residual-i
 
 pub returns-clause-kept : goal.returns-clause-kept
 returns-clause-kept g c = going.GoesOn-as (λ is. absurd (cc)) (λ _ is. absurd (cc)) (going.GoesOn-then g.met.D.Desk.stays_on (λ is. absurd (cc)) c.in_ok-size.ensures.kept c.in_ok-take_name.ensures.kept)
+
+pub returns-in_err-take_name-clause-modes : goal.returns-in_err-take_name-clause-modes
+returns-in_err-take_name-clause-modes g c =
+    usual_renamed g.D.World.tells.folder c.args.temporary.now (g.D.World.scene c.args.desk.now) (g.D.World.scene c.make_filled.new.desk) (g.D.World.scene c.take_name.new.desk)
+    c.make_filled.ensures.kept.frame c.make_filled.ensures.modes c.in_ok-size.ensures.anew c.take_name.ensures.modes
+
+pub returns-clause-modes : goal.returns-clause-modes
+returns-clause-modes g c =
+    usual_renamed g.D.World.tells.folder c.args.temporary.now (g.D.World.scene c.args.desk.now) (g.D.World.scene c.make_filled.new.desk) (g.D.World.scene c.take_name.new.desk)
+    c.make_filled.ensures.kept.frame c.make_filled.ensures.modes c.in_ok-size.ensures.anew c.take_name.ensures.modes

@@ -1,14 +1,19 @@
-use Rattle.std.proofs.Common.{◌≡◌, ◌≤◌, ℕ, List, Option, IsTrue, length, refl, sym, subst, arith}
-use Rattle.std.specs.Prelude.{IsSomeAnd}
+use Rattle.std.proofs.Common.{◌≡◌, ◌≤◌, [], ◌∷◌, ℕ, List, Option, None, IsTrue, length, refl, sym, ap, subst, arith}
+use Rattle.std.specs.Prelude.{IsSomeAnd, is_some}
 use Rattle.std.proofs.lemmas.Result.{err_from_is_err_and}
 use Rattle.vs_text.specs.Documents.{file_in}
+use Rattle.vs_host.specs.File.{Cuts}
+use Rattle.vs_host.specs.Disk.{mode_in}
+use Rattle.vs_host.specs.Trace.{Cut}
 use Rattle.vs_host.specs.World.{Scene}
 use Rattle.vs_disk.specs.Images.{IsSynced}
 use Rattle.vs_disk.proofs.Contents.{some_content}
-use Rattle.vs_backup.specs.Works.{Fills, one_name}
+use Rattle.vs_backup.specs.Modes.{TakesMode}
+use Rattle.vs_backup.specs.Works.{Widens, one_name}
 use Rattle.vs_backup.proofs.Calls.{synced_bytes}
 use Rattle.vs_backup.proofs.Copying.{cut_content}
-use Rattle.vs_backup.proofs.Frames.{ok_with, err_with}
+use Rattle.vs_backup.proofs.Frames.{ok_leads, ok_with, err_with}
+use Rattle.vs_backup.proofs.Modes.{makes_file, makes_narrowed, makes_none, makes_then}
 use Rattle.vs_backup.proofs.Others.{others_settled}
 use Rattle.vs_backup.proofs.Unbacked.{plain_not_begun, plain_not_cut, plain_filled}
 use Rattle.vs_backup.proofs.Going as going
@@ -44,7 +49,10 @@ returns-clause-plain g c told old content text has =
     s2 c.cut.ensures.kept.frame c.cut.result (c.cut.ensures.told told) (c.in_ok-cut.ensures.ok told) s3 (c.fill_text.ensures.runs told) c.fill_text.result
     (ok_with c.fill_text.result (λ size. IsTrue g.D.World.tells.folder → (t : List (List ℕ)) → g.D.Desk.has_text c.cut.new.self t → (size ≡ length (file_in c.args.format t)) × IsSynced c.args.name.now (file_in c.args.format t) s3.folder)
     (λ size. (size ≡ length (file_in c.args.format text)) × IsSynced c.args.name.now (file_in c.args.format text) s3.folder) (λ size f. f told text kept) c.fill_text.ensures.ok)
-    (err_with c.fill_text.result (IsTrue g.D.World.tells.folder → Fills c.args.name.now s2.folder s3.folder) (Fills c.args.name.now s2.folder s3.folder) (λ f. f told) c.fill_text.ensures.err)
+    (err_with c.fill_text.result (IsTrue g.D.World.tells.folder → Widens c.args.name.now s2.folder s3.folder) (Widens c.args.name.now s2.folder s3.folder) (λ f. f told) c.fill_text.ensures.err)
+    (ok_leads (TakesMode g.D.World.tells.folder c.args.name.now c.args.name.now s2 s3) (mode_in s3.folder c.args.name.now ≡ mode_in s2.folder c.args.name.now) c.fill_text.result
+    (λ takes. takes.same told (ap (λ (o : Option (List ℕ)). is_some o) (cut_content c.args.name.now old s1.folder s2.folder (c.in_ok-cut.ensures.ok told) (synced_bytes c.args.name.now old s1.folder (c.in_ok-settle.ensures.ok.settled told old content).synced))))
+    c.fill_text.ensures.mode)
 
 pub cut-requires-clause-there : goal.cut-requires-clause-there
 cut-requires-clause-there g c told =
@@ -68,3 +76,24 @@ returns-in_err-cut-clause-kept g c = going.GoesOn-failed c.from_residual-in_err-
 
 pub returns-clause-kept : goal.returns-clause-kept
 returns-clause-kept g c = going.GoesOn-then g.met.D.Desk.stays_on (λ is. absurd (cc)) (going.GoesOn-then g.met.D.Desk.stays_on (λ is. absurd (cc)) c.in_ok-settle.ensures.kept c.in_ok-cut.ensures.kept) c.fill_text.ensures.kept
+
+pub returns-in_err-settle-clause-modes : goal.returns-in_err-settle-clause-modes
+returns-in_err-settle-clause-modes g c = makes_narrowed g.D.World.tells.folder None (g.D.World.scene c.args.desk.now) (g.D.World.scene c.settle.new.desk) c.settle.ensures.settles.narrowed
+
+pub returns-in_err-cut-clause-modes : goal.returns-in_err-cut-clause-modes
+returns-in_err-cut-clause-modes g c =
+    let s0 : Scene = g.D.World.scene c.args.desk.now in
+    let s1 : Scene = g.D.World.scene c.settle.new.desk in
+    let s2 : Scene = g.D.World.scene c.cut.new.self in
+    makes_then c.settle.ensures.kept.frame (makes_narrowed g.D.World.tells.folder None s0 s1 c.settle.ensures.settles.narrowed)
+    (makes_none g.D.World.tells.folder None Cut (c.args.name.now ∷ []) c.cut.result s1 s2 c.cut.ensures.kept.frame c.cut.ensures.told c.in_err-cut.ensures.err)
+
+pub returns-clause-modes : goal.returns-clause-modes
+returns-clause-modes g c =
+    let s0 : Scene = g.D.World.scene c.args.desk.now in
+    let s1 : Scene = g.D.World.scene c.settle.new.desk in
+    let s2 : Scene = g.D.World.scene c.cut.new.self in
+    makes_then c.settle.ensures.kept.frame (makes_narrowed g.D.World.tells.folder None s0 s1 c.settle.ensures.settles.narrowed)
+    (makes_then c.cut.ensures.kept.frame
+    (makes_file g.D.World.tells.folder None Cut (c.args.name.now ∷ []) c.cut.result s1 s2 c.cut.ensures.kept.frame c.cut.ensures.told c.args.name.now (Cuts 0) c.cut.ensures.ok c.cut.ensures.err)
+    c.fill_text.ensures.modes)

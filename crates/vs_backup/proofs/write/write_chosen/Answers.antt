@@ -1,7 +1,7 @@
 use Rattle.std.proofs.Common.{◌≡◌, ◌∙◌, inl, inr, Some, None, Err, refl, sym, ap, subst}
 use Rattle.std.specs.String.{string_bytes}
 use Rattle.vs_text.specs.Documents.{file_in}
-use Rattle.vs_host.specs.Disk.{Disk, Name, content_in}
+use Rattle.vs_host.specs.Disk.{Disk, Name, content_in, mode_in}
 use Rattle.vs_host.specs.Names.{temporary}
 use Rattle.vs_host.specs.World.{Scene, content_of}
 use Rattle.vs_disk.proofs.Runs.{reads_change}
@@ -14,6 +14,7 @@ use Rattle.vs_backup.proofs.Others.{others_looks}
 use Rattle.vs_backup.proofs.Free.{backup_is_free}
 use Rattle.vs_backup.proofs.Backed.{backed_after, backed_stopped, old_in_file}
 use Rattle.vs_backup.proofs.Following.{looks_narrowed}
+use Rattle.vs_backup.proofs.Modes.{makes_looked, makes_looks}
 use Rattle.vs_backup.proofs.Doing as doing
 use Rattle.vs_backup.proofs.Going.{stop_here}
 use Rattle.vs_backup.proofs.write.write_chosen.Goals as goal
@@ -95,3 +96,19 @@ returns-in-Err-clause-all_taken g c told taken =
       none = λ calm. c.in-Err.ensures.kept.stops.none told (λ failed. calm (stop_here why place.File (stopped why place.File) refl failed));
       refused = inr (old_in_file why);
     })
+
+pub returns-in-Ok-Some-clause-modes : goal.returns-in-Ok-Some-clause-modes
+returns-in-Ok-Some-clause-modes g c =
+    let s0 : Scene = g.D.World.scene c.args.desk.now in
+    let s1 : Scene = g.D.World.scene c.choose.new.desk in
+    makes_looked g.D.World.tells.folder c.args.name.now s0 s1 (g.D.World.scene c.write_named.new.desk) (reads_change s0 s1 c.choose.ensures.kept.frame) c.choose.ensures.looks c.write_named.ensures.modes
+
+pub returns-in-Ok-None-clause-modes : goal.returns-in-Ok-None-clause-modes
+returns-in-Ok-None-clause-modes g c =
+    let s0 : Scene = g.D.World.scene c.args.desk.now in
+    makes_looks g.D.World.tells.folder (mode_in s0.folder c.args.name.now) s0 (g.D.World.scene c.choose.new.desk) c.choose.ensures.looks
+
+pub returns-in-Err-clause-modes : goal.returns-in-Err-clause-modes
+returns-in-Err-clause-modes g c =
+    let s0 : Scene = g.D.World.scene c.args.desk.now in
+    makes_looks g.D.World.tells.folder (mode_in s0.folder c.args.name.now) s0 (g.D.World.scene c.choose.new.desk) c.choose.ensures.looks

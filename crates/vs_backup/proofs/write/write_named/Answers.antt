@@ -7,6 +7,7 @@ use Rattle.vs_backup.specs.Backups.{copies}
 use Rattle.vs_backup.specs.Writing.{WritesBacked}
 use Rattle.vs_backup.specs.declared.errors.Place.TheVariants as place
 use Rattle.vs_backup.proofs.Backed.{backed_no_memory}
+use Rattle.vs_backup.proofs.Modes.{makes_starts}
 use Rattle.vs_backup.proofs.Doing as doing
 use Rattle.vs_backup.proofs.write.write_named.Goals as goal
 
@@ -35,3 +36,9 @@ returns-in_default-clause-calls g c told text has = doing.fails_memory c.args.na
 
 pub returns-in_default-buffer-clause-calls : goal.returns-in_default-buffer-clause-calls
 returns-in_default-buffer-clause-calls g c told text has = doing.fails_memory c.args.name.now (file_in c.args.options.now.format text) place.File (λ e. cc) (g.D.World.scene c.args.desk.now)
+
+pub returns-in_default-clause-modes : goal.returns-in_default-clause-modes
+returns-in_default-clause-modes g c = makes_starts g.D.World.tells.folder _ (g.D.World.scene c.args.desk.now)
+
+pub returns-in_default-buffer-clause-modes : goal.returns-in_default-buffer-clause-modes
+returns-in_default-buffer-clause-modes g c = makes_starts g.D.World.tells.folder _ (g.D.World.scene c.args.desk.now)

@@ -1,4 +1,4 @@
-use Rattle.std.proofs.Common.{refl}
+use Rattle.std.proofs.Common.{None, refl}
 use Rattle.std.proofs.lemmas.Result.{err_from_is_err_and}
 use Rattle.vs_text.specs.Documents.{file_in}
 use Rattle.vs_host.specs.World.{Scene}
@@ -7,6 +7,7 @@ use Rattle.vs_backup.specs.Works.{Renews, Spares, one_name}
 use Rattle.vs_backup.proofs.Frames.{spares_none}
 use Rattle.vs_backup.proofs.Renewing.{renews_same}
 use Rattle.vs_backup.proofs.Unbacked.{fresh_not_taken}
+use Rattle.vs_backup.proofs.Modes.{makes_starts, usual_any}
 use Rattle.vs_backup.proofs.Going as going
 use Rattle.vs_backup.proofs.write.write_new.Goals as goal
 
@@ -20,3 +21,6 @@ returns-in_err-piece-clause-fresh g c told free text has =
 
 pub returns-in_err-piece-clause-kept : goal.returns-in_err-piece-clause-kept
 returns-in_err-piece-clause-kept g c = going.GoesOn-nothing c.requires.valid (g.met.D.Desk.stays_itself c.args.desk.now) (going.err_other c.from_residual.result _ _ c.from_residual.ensures.1 (λ is. absurd (cc)))
+
+pub returns-in_err-piece-clause-modes : goal.returns-in_err-piece-clause-modes
+returns-in_err-piece-clause-modes g c = usual_any (makes_starts g.D.World.tells.folder None (g.D.World.scene c.args.desk.now))

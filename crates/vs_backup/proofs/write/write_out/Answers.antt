@@ -1,11 +1,13 @@
-use Rattle.std.proofs.Common.{◌≡◌, ◌∙◌, [], ◌∷◌, inl, inr, ℕ, List, true, false, Option, Some, None, Err, refl, ap, sym, subst, Result}
+use Rattle.std.proofs.Common.{◌≡◌, ◌∙◌, [], ◌∷◌, inl, inr, ℕ, List, true, false, Option, Some, None, option_map, Err, refl, ap, sym, subst, Result}
 use Rattle.std.specs.Prelude.{is_some}
 use Rattle.std.proofs.lemmas.Bool.{true≢false}
 use Rattle.vs_text.specs.Documents.{file_in}
-use Rattle.vs_host.specs.Disk.{Disk, Name, content_in}
+use Rattle.vs_host.specs.Disk.{Disk, Name, content_in, mode_in}
 use Rattle.vs_host.specs.Names.{temporary}
 use Rattle.vs_host.specs.Trace.{Looked}
 use Rattle.vs_host.specs.World.{Scene, IsTold, content_of}
+use Rattle.vs_disk.specs.Modes.{MakesLike}
+use Rattle.vs_disk.proofs.Contents.{leads_nowhere}
 use Rattle.vs_disk.proofs.Runs.{one_look, reads_change}
 use Rattle.vs_backup.specs.Backups.{IsBackupName, WorksOn, backs_up, backup_of, copies}
 use Rattle.vs_backup.specs.Works.{SparesOthers, two_names}
@@ -17,6 +19,7 @@ use Rattle.vs_backup.proofs.Others.{others_looks}
 use Rattle.vs_backup.specs.declared.errors.Place.TheVariants as place
 use Rattle.vs_backup.specs.declared.errors.WriteErr.TheVariants as error
 use Rattle.vs_backup.proofs.Whole.{unseen, told_alone, none_after, plain_after, fresh_after, fresh_others, others_after, not_there_now}
+use Rattle.vs_backup.proofs.Modes.{makes_like, makes_looked, makes_looks, usual_after, usual_any}
 use Rattle.vs_backup.proofs.Doing as doing
 use Rattle.vs_backup.specs.Writing.{BeginsByLook, FailsNoEarlier}
 use Rattle.vs_backup.specs.declared.errors.WriteErr.{WriteErr}
@@ -235,3 +238,46 @@ returns-in-Err-clause-looked g c told =
     let s0 : Scene = g.D.World.scene c.args.desk.now in
     let s1 : Scene = g.D.World.scene c.has.new.self in
     inl (unseen s0 s1 (one_look Looked (c.as_str-name.result.now ∷ []) c.has.result s0 s1 c.has.ensures.kept.frame (c.has.ensures.told told)) (c.in-Err.ensures.kept.stops.last told))
+
+pub returns-in-Ok-true-clause-modes : goal.returns-in-Ok-true-clause-modes
+returns-in-Ok-true-clause-modes g c there =
+    let s0 : Scene = g.D.World.scene c.args.desk.now in
+    let s1 : Scene = g.D.World.scene c.has.new.self in
+    let s2 : Scene = g.D.World.scene c.write_there.new.desk in
+    subst (λ (n : Name). MakesLike g.D.World.tells n s0 s2) c.as_str-name.ensures
+    (makes_like g.D.World.tells c.as_str-name.result.now s0 s2
+    (makes_looked g.D.World.tells.folder c.as_str-name.result.now s0 s1 s2 (reads_change s0 s1 c.has.ensures.kept.frame)
+    (λ is. one_look Looked (c.as_str-name.result.now ∷ []) c.has.result s0 s1 c.has.ensures.kept.frame (c.has.ensures.told is)) c.write_there.ensures.modes))
+
+pub returns-in-Ok-false-clause-modes : goal.returns-in-Ok-false-clause-modes
+returns-in-Ok-false-clause-modes g c there told =
+    let s0 : Scene = g.D.World.scene c.args.desk.now in
+    let none = subst (λ (n : Name). content_in s0.folder n ≡ None) c.as_str-name.ensures (not_there_now c.as_str-name.result.now s0.folder (sym c.in-Ok-false.field-0-test ∙ c.in-Ok-false.ensures.value told)) in
+    absurd (true≢false (sym there ∙ ap (λ (at : Option ℕ). is_some (option_map s0.folder.modes at)) (leads_nowhere s0.folder c.args.names.now.file none)))
+
+pub returns-in-Err-clause-modes : goal.returns-in-Err-clause-modes
+returns-in-Err-clause-modes g c there =
+    let s0 : Scene = g.D.World.scene c.args.desk.now in
+    let s1 : Scene = g.D.World.scene c.has.new.self in
+    makes_like g.D.World.tells c.args.names.now.file s0 s1
+    (makes_looks g.D.World.tells.folder (mode_in s0.folder c.args.names.now.file) s0 s1
+    (λ is. one_look Looked (c.as_str-name.result.now ∷ []) c.has.result s0 s1 c.has.ensures.kept.frame (c.has.ensures.told is)))
+
+pub returns-in-Ok-true-clause-usual : goal.returns-in-Ok-true-clause-usual
+returns-in-Ok-true-clause-usual g c told free =
+    let s0 : Scene = g.D.World.scene c.args.desk.now in
+    let there = subst (λ (n : Name). true ≡ is_some (content_in s0.folder n)) c.as_str-name.ensures (sym c.in-Ok-true.field-0-test ∙ c.in-Ok-true.ensures.value told) in
+    absurd (true≢false (there ∙ ap (λ (o : Option (List ℕ)). is_some o) free))
+
+pub returns-in-Ok-false-clause-usual : goal.returns-in-Ok-false-clause-usual
+returns-in-Ok-false-clause-usual g c told free =
+    let s0 : Scene = g.D.World.scene c.args.desk.now in
+    let s1 : Scene = g.D.World.scene c.has.new.self in
+    usual_after (reads_change s0 s1 c.has.ensures.kept.frame)
+    (makes_looks g.D.World.tells.folder None s0 s1 (λ is. one_look Looked (c.as_str-name.result.now ∷ []) c.has.result s0 s1 c.has.ensures.kept.frame (c.has.ensures.told is))) c.write_new.ensures.modes
+
+pub returns-in-Err-clause-usual : goal.returns-in-Err-clause-usual
+returns-in-Err-clause-usual g c told free =
+    let s0 : Scene = g.D.World.scene c.args.desk.now in
+    let s1 : Scene = g.D.World.scene c.has.new.self in
+    usual_any (makes_looks g.D.World.tells.folder None s0 s1 (λ is. one_look Looked (c.as_str-name.result.now ∷ []) c.has.result s0 s1 c.has.ensures.kept.frame (c.has.ensures.told is)))

@@ -1,10 +1,12 @@
 use Rattle.std.proofs.Common.{◌≡◌, ◌∙◌, Some, None, sym, subst, Result, ℕ}
 use Rattle.std.proofs.lemmas.Bool.{true≢false}
 use Rattle.vs_text.specs.Documents.{file_in}
+use Rattle.vs_host.specs.Disk.{mode_in}
 use Rattle.vs_host.specs.World.{Scene}
 use Rattle.vs_disk.proofs.Contents.{some_content}
 use Rattle.vs_backup.proofs.NamesApart.{no_backup}
 use Rattle.vs_backup.proofs.Whole.{chosen_others, chosen_somewhere, plain_others}
+use Rattle.vs_backup.proofs.Modes.{makes_any}
 use Rattle.vs_backup.proofs.Doing as doing
 use Rattle.vs_backup.specs.Writing.{FailsNoEarlier}
 use Rattle.vs_backup.specs.declared.errors.WriteErr.{WriteErr}
@@ -53,3 +55,6 @@ returns-clause-somewhere g c told on refused = true≢false (sym on ∙ sym c.ba
 
 pub returns-clause-calls : goal.returns-clause-calls
 returns-clause-calls g c = λ told text has. let had = some_content (g.D.World.scene c.args.desk.now).folder c.args.name.now (c.requires.there told) in subst (λ (r : Result ℕ WriteErr). FailsNoEarlier c.args.name.now (file_in c.args.options.now.format text) (g.D.World.scene c.args.desk.now) (g.D.World.scene c.write_unbacked.new.desk) r) (sym c.without_backup.ensures) (doing.fails_plain c.args.name.now (file_in c.args.options.now.format text) g.D.World.tells c.write_unbacked.result (g.D.World.scene c.args.desk.now) (g.D.World.scene c.write_unbacked.new.desk) told (g.D.World.newest c.write_unbacked.new.desk told) c.write_unbacked.ensures.kept.stops c.write_unbacked.ensures.kept.cause (c.write_unbacked.ensures.plain told had.0 had.1 text has).written)
+
+pub returns-clause-modes : goal.returns-clause-modes
+returns-clause-modes g c = makes_any (mode_in (g.D.World.scene c.args.desk.now).folder c.args.name.now) c.write_unbacked.ensures.modes

@@ -5,6 +5,7 @@ use Rattle.vs_backup.proofs.Following.{narrowed_starts}
 use Rattle.vs_backup.specs.Works.{one_name}
 use Rattle.vs_backup.proofs.Others.{others_starts}
 use Rattle.vs_backup.proofs.Unbacked.{plain_not_begun}
+use Rattle.vs_backup.proofs.Modes.{makes_starts}
 use Rattle.vs_backup.proofs.Going as going
 use Rattle.vs_backup.proofs.write.write_unbacked.Goals as goal
 
@@ -16,3 +17,6 @@ returns-in_err-piece-clause-plain g c told old content text has =
 
 pub returns-in_err-piece-clause-kept : goal.returns-in_err-piece-clause-kept
 returns-in_err-piece-clause-kept g c = going.GoesOn-nothing c.requires.valid (g.met.D.Desk.stays_itself c.args.desk.now) (going.err_other c.from_residual.result _ _ c.from_residual.ensures.1 (λ is. absurd (cc)))
+
+pub returns-in_err-piece-clause-modes : goal.returns-in_err-piece-clause-modes
+returns-in_err-piece-clause-modes g c = makes_starts g.D.World.tells.folder _ (g.D.World.scene c.args.desk.now)

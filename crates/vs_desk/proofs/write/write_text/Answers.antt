@@ -2,12 +2,11 @@ use Rattle.std.proofs.Common.{refl}
 use Rattle.vs_host.specs.World.{Scene}
 use Rattle.vs_pair.specs.Pair.{is_swap}
 use Rattle.vs_paged.specs.Fits.{names_of}
-use Rattle.vs_paged.proofs.SyncLemmas.{fits_changed, fits_kept}
 use Rattle.vs_disk.specs.Names.{SameAt}
 use Rattle.vs_text.specs.Documents.{file_in}
 use Rattle.vs_desk.proofs.Left.{keeps_left}
 use Rattle.vs_desk.proofs.Stillness.{still_apart, still_fits}
-use Rattle.vs_desk.proofs.Spared.{keeps_swap, paged_same, swap_outside}
+use Rattle.vs_desk.proofs.Spared.{fits_written, keeps_swap, swap_outside}
 use Rattle.vs_desk.proofs.write.write_text.Goals as goal
 
 pub returns-clause-recovers : goal.returns-clause-recovers
@@ -28,8 +27,7 @@ returns-clause-fits g c told lines syncs fits =
     let s1 : Scene = g.F.World.scene c.write_in.new.host in
     let runs = c.write_in.ensures.others told (is_swap names) (swap_outside names paged.pair.files.named c.args.options.now s0.folder)
     (still_apart (is_swap names) s0.folder (g.F.World.is_folder c.args.host.now told) (still_fits paged s0.folder lines syncs fits)) in
-    let same = c.write_in.ensures.same in
-    fits_changed paged _ s1.folder lines lines syncs refl same.since (paged_same g.F.World.tells.folder _ _ _ _ lines told same fits.pages) (fits_kept paged s0.folder s1.folder lines syncs runs.now fits)
+    fits_written g.F.World.tells.folder paged _ s0.folder s1.folder lines syncs told refl c.write_in.ensures.same runs.now fits
 
 pub returns-clause-others : goal.returns-clause-others
 returns-clause-others g c told = c.write_in.ensures.others told
