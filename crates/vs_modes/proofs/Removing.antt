@@ -6,6 +6,7 @@ use Rattle.vs_host.specs.Disk.{Disk, Directory, Name, Removes, ChangesNames, Syn
 use Rattle.vs_host.specs.declared.names.Names.{Names}
 use Rattle.vs_host.specs.World.{Tells, Scene}
 use Rattle.vs_disk.proofs.Steps.{at_name, itself, newest_names, older_names, settled}
+use Rattle.vs_disk.proofs.Modes.{modes_none, modes_removed, modes_synced, modes_then}
 use Rattle.vs_disk.proofs.Others.{same_none, same_then}
 use Rattle.vs_pair.specs.Pair.{is_apart, is_swap}
 use Rattle.vs_pair.specs.Steps.{IsFresh}
@@ -57,7 +58,7 @@ gone_now gone name old new removes (inr none) = stays_gone gone name old new non
 
 module _ (names : Names) where
   pub discards_none : (disk : Disk) → Discards names disk disk
-  discards_none disk = record { files = refl; spared = same_none (is_apart names) disk; left = λ lost name is. inr (lost, refl); swo_first = λ lost. inr (lost, refl, refl) }
+  discards_none disk = record { files = refl; modes = λ allowed. modes_none allowed disk; spared = same_none (is_apart names) disk; left = λ lost name is. inr (lost, refl); swo_first = λ lost. inr (lost, refl, refl) }
 
   removed_left : (gone : Name) (old mid new : Disk) → Discards names old mid → ChangesNames (Removes gone) mid new → (lost : ℕ) (name : Name) → is_swap names name ≡ true → IsLeft old (names_at new lost name) name
   removed_left gone old mid new so_far removes zero name is = elim (removed_at gone name mid new removes) [
@@ -78,6 +79,7 @@ module _ (names : Names) where
       → Discards names old new
   discards_removes gone out old mid new first so_far (inl removes) = record {
     files = removes.files ∙ so_far.files;
+    modes = λ allowed. modes_then allowed old mid new (so_far.modes allowed) (modes_removed allowed gone mid new removes);
     spared = same_then (is_apart names) old mid new so_far.spared (same_or (is_apart names) gone mid new out (inl removes));
     left = removed_left gone old mid new so_far removes;
     swo_first = removed_first gone old mid new first so_far removes;
@@ -87,6 +89,7 @@ module _ (names : Names) where
   pub discards_syncs : (old mid new : Disk) → Discards names old mid → SyncsNames mid new ⊎ (new ≡ mid) → Discards names old new
   discards_syncs old mid new so_far (inl syncs) = record {
     files = syncs.files ∙ so_far.files;
+    modes = λ allowed. modes_then allowed old mid new (so_far.modes allowed) (modes_synced allowed mid new syncs);
     spared = same_then (is_apart names) old mid new so_far.spared (synced_same (is_apart names) mid new syncs);
     left = λ lost name is. left_as old (names_at new lost name) (names_of mid name) name (settled mid new syncs lost name) (so_far.left 0 name is);
     swo_first = λ lost. first_as names old (names_at new lost) (names_of mid) (λ name. settled mid new syncs lost name) (so_far.swo_first 0);

@@ -1,8 +1,9 @@
 -- What `discard` does.
 use Rattle.std.specs.Prelude.{◌≡◌, ◌⊎◌, ◌||◌, ℕ, Bool, true, false, List, [], ◌∷◌, ◌++◌, codes, None, is_some, Ok, Err, IsTrue, ⊤}
-use Rattle.vs_host.specs.Disk.{Disk, Directory, Name, Removes, ChangesNames, names_at}
+use Rattle.vs_host.specs.Disk.{Disk, Directory, Mode, Name, Removes, ChangesNames, names_at}
 use Rattle.vs_host.specs.declared.names.Names.{Names}
 use Rattle.vs_host.specs.World.{Tells, Scene, content_of}
+use Rattle.vs_disk.specs.Modes.{KeepsModes}
 use Rattle.vs_disk.specs.Names.{SameAt}
 use Rattle.vs_pair.specs.Pair.{is_apart, is_swap}
 use Rattle.vs_pair.specs.Steps.{IsFresh}
@@ -18,10 +19,11 @@ MayRemove name old new = ChangesNames (Removes name) old new ⊎ (new ≡ old)
 abbrev pub LeadAs : Names → Disk → Directory → Type 0
 LeadAs names disk now = (l : ℕ) × (now names.swp ≡ names_at disk l names.swp) × (now names.swo ≡ names_at disk l names.swo)
 
--- While the swap files are removed: no file changes, all other names are spared, and a stop leaves a swap name as before, or
--- without a file. `.swo` goes first: until it is gone both are as before.
+-- While the swap files are removed: no file changes and none gets a mode, all other names are spared, and a stop leaves a swap name as
+-- before, or without a file. `.swo` goes first: until it is gone both are as before.
 pub record Discards (names : Names) (old new : Disk) : Type 0 where
   pub files : new.files ≡ old.files
+  pub modes : (allowed : Mode → Bool) → KeepsModes allowed old new
   pub spared : SameAt (is_apart names) old new
   pub left : (lost : ℕ) (name : Name) → is_swap names name ≡ true → (names_at new lost name ≡ None) ⊎ ((l : ℕ) × (names_at new lost name ≡ names_at old l name))
   pub swo_first : (lost : ℕ) → (names_at new lost names.swo ≡ None) ⊎ LeadAs names old (names_at new lost)

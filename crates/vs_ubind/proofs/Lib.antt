@@ -1,5 +1,7 @@
 pub mod Fed
 pub mod Calls
+pub mod Modes
+pub mod Works
 pub mod Loads
 pub mod Told
 pub mod Used

@@ -1,5 +1,5 @@
 -- Each call adds at most its own snapshot, so calls on names of a set go on to calls on names of it.
-use Rattle.std.proofs.Common.{◌≡◌, ◌≢◌, inl, inr, List, [], ◌∷◌, ◌++◌, Result, IsTrue, IsErr, refl, sym, ap, ◌∙◌}
+use Rattle.std.proofs.Common.{◌≢◌, inl, inr, List, [], ◌∷◌, ◌++◌, Result, IsTrue, IsErr, refl, sym, ap, ◌∙◌}
 use Rattle.std.proofs.lemmas.List.{append_assoc}
 use Rattle.vs_host.specs.Disk.{Name}
 use Rattle.vs_host.specs.Trace.{Kind, Renamed, SyncedNames, Snapshot, Each, GoesOn}

@@ -1,9 +1,27 @@
--- Which calls the storing of an undo file makes.
-use Rattle.std.specs.Prelude.{◌≡◌, ◌≢◌, ◌⊎◌, ◌++◌, List, [], ◌∷◌, IsTrue}
-use Rattle.vs_host.specs.Disk.{Name}
+-- What the storing of an undo file says of its work on the folder, and which calls it makes.
+use Rattle.std.specs.Prelude.{◌≡◌, ◌≢◌, ◌≤◌, ◌⊎◌, ◌++◌, List, [], ◌∷◌, IsTrue}
+use Rattle.vs_host.specs.Disk.{Disk, Name}
 use Rattle.vs_host.specs.Trace.{Renamed, SyncedNames, Snapshot, Each, GoesOn}
-use Rattle.vs_host.specs.World.{Tells, Scene}
+use Rattle.vs_host.specs.World.{Tells, Scene, ChangesFolder}
+use Rattle.vs_disk.specs.Modes.{MakesLike}
+use Rattle.vs_disk.specs.Runs.{FailsLast, Runs}
 use Rattle.vs_backup.specs.Works.{one_name}
+
+-- Only the folder, its faults and the trace changed. Where the folder is told, the step leads from the folder at the start to that of
+-- each snapshot since and to that now, and no call but the last one failed.
+pub record Works (tells : Tells) (step : Disk → Disk → Type 0) (old new : Scene) : Type 0 where
+  pub frame : ChangesFolder old new
+  pub later : old.folder_faults ≤ new.folder_faults
+  pub runs : IsTrue tells.folder → Runs step old new
+  pub last : IsTrue tells.folder → FailsLast old new
+
+-- The same, and a file that was made is for its owner alone or has a mode that the file of the name had.
+pub record ActsLike (tells : Tells) (name : Name) (step : Disk → Disk → Type 0) (old new : Scene) : Type 0 where
+  pub frame : ChangesFolder old new
+  pub later : old.folder_faults ≤ new.folder_faults
+  pub runs : IsTrue tells.folder → Runs step old new
+  pub last : IsTrue tells.folder → FailsLast old new
+  pub modes : MakesLike tells name old new
 
 -- A call on names of this set alone.
 pub record IsCallOn (on : Name → Type 0) (call : Snapshot) : Type 0 where

@@ -1,16 +1,15 @@
 // How an undo file comes to stand: it is written under another name, and renamed when it is synced.
-ghost use Rattle.std.specs.Prelude.{◌≡◌, ◌≢◌, ◌∷◌, [], ℕ, List, None, Some, IsErr, IsSome, IsTrue, OnErr, OnOk};
+ghost use Rattle.std.specs.Prelude.{◌≡◌, ◌≢◌, [], ℕ, Bool, List, None, Some, IsErr, IsSome, IsTrue, OnOk, unwrap_or};
 ghost use Rattle.vs_faults.specs.Faults.{HasCause};
 ghost use Rattle.vs_host.specs.Names.{AreNames};
-ghost use Rattle.vs_host.specs.Disk.{ChangesFile};
-ghost use Rattle.vs_host.specs.File.{Syncs};
-ghost use Rattle.vs_host.specs.Trace.{Synced};
-ghost use Rattle.vs_host.specs.World.{ChangesFolder, IsTold, content_of};
+ghost use Rattle.vs_host.specs.Disk.{Mode, mode_in, owner_mode};
+ghost use Rattle.vs_host.specs.World.{content_of};
 ghost use Rattle.vs_disk.specs.Images.{HoldsBytes, IsSynced, Takes};
+ghost use Rattle.vs_disk.specs.Modes.{HasMode, KeepsModes};
 ghost use Rattle.vs_disk.specs.Runs.{Runs, NoneFails};
 ghost use Rattle.vs_pair.specs.Acts.{Acts};
 ghost use Rattle.vs_backup.specs.Works.{IsAlone, IsGone, Spares, one_name, two_names};
-ghost use Rattle.vs_ubind.specs.Storing.{CallsOn, StoresBy};
+ghost use Rattle.vs_ubind.specs.Storing.{ActsLike, CallsOn, StoresBy, Works};
 
 use vs_host::{Failed, Folder, Names};
 
@@ -32,6 +31,7 @@ fn clear<F: Folder>(host: &mut F, name: &str) -> Result<(), Failed>
 fn make_anew<F: Folder>(host: &mut F, name: &str) -> Result<(), Failed>
     ensures acts { Acts F.tells (Spares (one_name name.now)) (F.scene host.old) (F.scene host.new) }
     ensures calls { CallsOn F.tells (one_name name.now) (F.scene host.old) (F.scene host.new) }
+    ensures mode { OnOk result (IsTrue F.tells.folder → mode_in (F.scene host.new).folder name.now ≡ Some owner_mode) }
     ensures empty { OnOk result (IsTrue F.tells.folder → content_of (F.scene host.new) name.now ≡ Some []) }
     ensures alone { OnOk result (IsTrue F.tells.folder → IsAlone name.now (F.scene host.new).folder) }
     ensures none { OnOk result (NoneFails F.tells (F.scene host.old) (F.scene host.new)) }
@@ -41,40 +41,31 @@ fn make_anew<F: Folder>(host: &mut F, name: &str) -> Result<(), Failed>
     host.create_private(name)
 }
 
-// Gives a file the mode bits of another one, where that is there, and syncs it.
-fn sync_like<F: Folder>(host: &mut F, model: &str, name: &str) -> Result<(), Failed>
-    requires { IsTrue F.tells.folder → IsSome (content_of (F.scene host.old) name.now) }
-    ensures ok { OnOk result (IsTrue F.tells.folder → ChangesFile name.now Syncs (F.scene host.old).folder (F.scene host.new).folder) }
-    ensures err { OnErr result ((F.scene host.new).folder ≡ (F.scene host.old).folder) }
-    ensures cause { HasCause (F.scene host.old).folder_faults (F.scene host.new).folder_faults (IsErr result) }
-    ensures quiet { OnOk result ((F.scene host.new).folder_faults ≡ (F.scene host.old).folder_faults) }
-    ensures told { IsTrue F.tells.folder → IsTold Synced (name.now ∷ []) result (F.scene host.old) (F.scene host.new) }
-    ensures frame { ChangesFolder (F.scene host.old) (F.scene host.new) }
-{
-    host.take_mode(model, name);
-    host.sync(name)
-}
-
-// Writes the bytes into an empty file, gives it the mode bits of another one, and syncs it.
+// Writes the bytes into an empty file, gives it the mode bits of another one, if that is there, and syncs it.
 fn fill<F: Folder>(host: &mut F, name: &str, model: &str, bytes: &[u8]) -> Result<(), Failed>
     requires empty { IsTrue F.tells.folder → content_of (F.scene host.old) name.now ≡ Some [] }
     requires alone { IsTrue F.tells.folder → IsAlone name.now (F.scene host.old).folder }
-    ensures acts { Acts F.tells (Spares (one_name name.now)) (F.scene host.old) (F.scene host.new) }
+    ensures acts { ActsLike F.tells model.now (Spares (one_name name.now)) (F.scene host.old) (F.scene host.new) }
     ensures calls { CallsOn F.tells (one_name name.now) (F.scene host.old) (F.scene host.new) }
+    ensures mode { OnOk result (IsTrue F.tells.folder → (own : Mode) → mode_in (F.scene host.old).folder name.now ≡ Some own
+        → mode_in (F.scene host.new).folder name.now ≡ Some (unwrap_or (mode_in (F.scene host.old).folder model.now) own)) }
     ensures synced { OnOk result (IsTrue F.tells.folder → IsSynced name.now bytes.now (F.scene host.new).folder) }
     ensures none { OnOk result (NoneFails F.tells (F.scene host.old) (F.scene host.new)) }
     ensures cause { HasCause (F.scene host.old).folder_faults (F.scene host.new).folder_faults (IsErr result) }
 {
     host.write_at(name, 0, bytes)?;
-    sync_like(host, model, name)
+    host.sync_like(model, name)
 }
 
 // Renames a synced file and syncs the names.
 fn take_name<F: Folder>(host: &mut F, from: &str, to: &str) -> Result<(), Failed>
     requires differ { from.now ≢ to.now }
     requires there { IsTrue F.tells.folder → IsSome (content_of (F.scene host.old) from.now) }
-    ensures acts { Acts F.tells (Spares (two_names from.now to.now)) (F.scene host.old) (F.scene host.new) }
+    ensures acts { Works F.tells (Spares (two_names from.now to.now)) (F.scene host.old) (F.scene host.new) }
     ensures calls { IsTrue F.tells.folder → StoresBy from.now to.now (F.scene host.old) (F.scene host.new) }
+    ensures modes { IsTrue F.tells.folder → (allowed : Mode → Bool) → HasMode allowed from.now (F.scene host.old).folder
+        → Runs (KeepsModes allowed) (F.scene host.old) (F.scene host.new) }
+    ensures mode { OnOk result (IsTrue F.tells.folder → mode_in (F.scene host.new).folder to.now ≡ mode_in (F.scene host.old).folder from.now) }
     ensures takes { IsTrue F.tells.folder → (bytes : List ℕ) → IsSynced from.now bytes (F.scene host.old).folder
         → Runs (Takes to.now bytes) (F.scene host.old) (F.scene host.new) }
     ensures holds { OnOk result (IsTrue F.tells.folder → (bytes : List ℕ) → IsSynced from.now bytes (F.scene host.old).folder
@@ -96,8 +87,10 @@ fn store_as<F: Folder>(
     bytes: &[u8],
 ) -> Result<(), Failed>
     requires { name.now ≢ temporary.now }
-    ensures acts { Acts F.tells (Spares (two_names temporary.now name.now)) (F.scene host.old) (F.scene host.new) }
+    ensures acts { ActsLike F.tells model.now (Spares (two_names temporary.now name.now)) (F.scene host.old) (F.scene host.new) }
     ensures calls { IsTrue F.tells.folder → StoresBy temporary.now name.now (F.scene host.old) (F.scene host.new) }
+    ensures mode { OnOk result (IsTrue F.tells.folder → model.now ≢ temporary.now
+        → mode_in (F.scene host.new).folder name.now ≡ Some (unwrap_or (mode_in (F.scene host.old).folder model.now) owner_mode)) }
     ensures takes { IsTrue F.tells.folder → Runs (Takes name.now bytes.now) (F.scene host.old) (F.scene host.new) }
     ensures holds { OnOk result (IsTrue F.tells.folder → HoldsBytes name.now bytes.now (F.scene host.new).folder) }
     ensures gone { OnOk result (IsTrue F.tells.folder → IsGone temporary.now (F.scene host.new).folder) }
@@ -119,8 +112,10 @@ fn store_as<F: Folder>(
 /// sync of the names; none but the last call has failed.
 pub fn store<F: Folder>(host: &mut F, names: &Names, bytes: &[u8]) -> Result<(), Failed>
     requires { AreNames names.now }
-    ensures acts { Acts F.tells (Spares (two_names names.now.undo_new names.now.undo)) (F.scene host.old) (F.scene host.new) }
+    ensures acts { ActsLike F.tells names.now.file (Spares (two_names names.now.undo_new names.now.undo)) (F.scene host.old) (F.scene host.new) }
     ensures calls { IsTrue F.tells.folder → StoresBy names.now.undo_new names.now.undo (F.scene host.old) (F.scene host.new) }
+    ensures mode { OnOk result (IsTrue F.tells.folder
+        → mode_in (F.scene host.new).folder names.now.undo ≡ Some (unwrap_or (mode_in (F.scene host.old).folder names.now.file) owner_mode)) }
     ensures takes { IsTrue F.tells.folder → Runs (Takes names.now.undo bytes.now) (F.scene host.old) (F.scene host.new) }
     ensures holds { OnOk result (IsTrue F.tells.folder → HoldsBytes names.now.undo bytes.now (F.scene host.new).folder) }
     ensures gone { OnOk result (IsTrue F.tells.folder → IsGone names.now.undo_new (F.scene host.new).folder) }

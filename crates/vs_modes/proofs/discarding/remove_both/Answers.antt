@@ -2,7 +2,7 @@ use Rattle.std.proofs.Common.{arith}
 use Rattle.vs_host.specs.Disk.{SyncsNames}
 use Rattle.vs_host.specs.Trace.{SyncedNames}
 use Rattle.vs_disk.proofs.Quiet.{calls_one, calls_then, calls_within, none_call, none_then}
-use Rattle.vs_pair.proofs.Calls.{either_acts}
+use Rattle.vs_pair.proofs.Calls.{either_acts, names_private}
 use Rattle.vs_modes.proofs.Removing.{first_acts, second_acts, last_acts, swo_gone, swp_inside, swo_inside}
 use Rattle.vs_modes.proofs.discarding.remove_both.Goals as goal
 
@@ -22,7 +22,7 @@ returns-in_err-sync_names-clause-acts g c =
     (second_acts c.args.names.now g.F.World.tells c.as_str-2.result.now (swp_inside c.args.names.now c.as_str-2.result.now c.as_str-2.ensures) _ _ _ (swo_gone c.args.names.now g.F.World.tells c.as_str.result.now (g.F.World.scene c.remove_file.new.host) c.as_str.ensures c.in_ok-second.ensures.gone) c.in_ok-second.ensures.none
     (first_acts c.args.names.now g.F.World.tells c.as_str.result.now (swo_inside c.args.names.now c.as_str.result.now c.as_str.ensures) c.as_str.ensures _ _ c.remove_file.ensures.acts)
     c.remove_file-2.ensures.acts)
-    (either_acts g.F.World.tells SyncsNames SyncedNames _ c.sync_names.result _ _ c.sync_names.ensures.ok c.sync_names.ensures.err c.sync_names.ensures.cause c.sync_names.ensures.told c.sync_names.ensures.frame)
+    (either_acts g.F.World.tells SyncsNames SyncedNames _ c.sync_names.result _ _ c.sync_names.ensures.ok c.sync_names.ensures.err c.sync_names.ensures.cause c.sync_names.ensures.told c.sync_names.ensures.frame (λ told. names_private _ _))
 
 pub returns-then-second-clause-acts : goal.returns-then-second-clause-acts
 returns-then-second-clause-acts g c =
@@ -30,7 +30,7 @@ returns-then-second-clause-acts g c =
     (second_acts c.args.names.now g.F.World.tells c.as_str-2.result.now (swp_inside c.args.names.now c.as_str-2.result.now c.as_str-2.ensures) _ _ _ (swo_gone c.args.names.now g.F.World.tells c.as_str.result.now (g.F.World.scene c.remove_file.new.host) c.as_str.ensures c.in_ok-second.ensures.gone) c.in_ok-second.ensures.none
     (first_acts c.args.names.now g.F.World.tells c.as_str.result.now (swo_inside c.args.names.now c.as_str.result.now c.as_str.ensures) c.as_str.ensures _ _ c.remove_file.ensures.acts)
     c.remove_file-2.ensures.acts)
-    (either_acts g.F.World.tells SyncsNames SyncedNames _ c.sync_names.result _ _ c.sync_names.ensures.ok c.sync_names.ensures.err c.sync_names.ensures.cause c.sync_names.ensures.told c.sync_names.ensures.frame)
+    (either_acts g.F.World.tells SyncsNames SyncedNames _ c.sync_names.result _ _ c.sync_names.ensures.ok c.sync_names.ensures.err c.sync_names.ensures.cause c.sync_names.ensures.told c.sync_names.ensures.frame (λ told. names_private _ _))
 
 pub returns-then-second-clause-none : goal.returns-then-second-clause-none
 returns-then-second-clause-none g c =
@@ -43,7 +43,7 @@ returns-else-second-clause-acts g c =
     (second_acts c.args.names.now g.F.World.tells c.as_str-2.result.now (swp_inside c.args.names.now c.as_str-2.result.now c.as_str-2.ensures) _ _ _ (swo_gone c.args.names.now g.F.World.tells c.as_str.result.now (g.F.World.scene c.remove_file.new.host) c.as_str.ensures c.in_ok-second.ensures.gone) c.in_ok-second.ensures.none
     (first_acts c.args.names.now g.F.World.tells c.as_str.result.now (swo_inside c.args.names.now c.as_str.result.now c.as_str.ensures) c.as_str.ensures _ _ c.remove_file.ensures.acts)
     c.remove_file-2.ensures.acts)
-    (either_acts g.F.World.tells SyncsNames SyncedNames _ c.sync_names.result _ _ c.sync_names.ensures.ok c.sync_names.ensures.err c.sync_names.ensures.cause c.sync_names.ensures.told c.sync_names.ensures.frame)
+    (either_acts g.F.World.tells SyncsNames SyncedNames _ c.sync_names.result _ _ c.sync_names.ensures.ok c.sync_names.ensures.err c.sync_names.ensures.cause c.sync_names.ensures.told c.sync_names.ensures.frame (λ told. names_private _ _))
 
 pub returns-else-second-clause-none : goal.returns-else-second-clause-none
 returns-else-second-clause-none g c =

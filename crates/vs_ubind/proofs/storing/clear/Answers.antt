@@ -5,10 +5,10 @@ use Rattle.vs_host.specs.Disk.{ChangesNames, Removes, content_in}
 use Rattle.vs_host.specs.Trace.{Looked, Removed}
 use Rattle.vs_host.specs.World.{Scene}
 use Rattle.vs_disk.proofs.Quiet.{none_call, none_then}
-use Rattle.vs_pair.proofs.Calls.{look_acts, look_none, look_same}
-use Rattle.vs_backup.specs.Works.{Spares, one_name}
-use Rattle.vs_backup.proofs.Frames.{spares_none, spares_removed}
-use Rattle.vs_ubind.proofs.Calls.{spares_acts, spares_call}
+use Rattle.vs_pair.proofs.Calls.{either_acts, look_none, look_same, removes_private}
+use Rattle.vs_backup.specs.Works.{one_name}
+use Rattle.vs_backup.proofs.Frames.{spares_removed}
+use Rattle.vs_ubind.proofs.Calls.{spares_acts, spares_look, spares_of}
 use Rattle.vs_ubind.proofs.Told.{calls_one, calls_then}
 use Rattle.vs_ubind.proofs.storing.clear.Goals as goal
 
@@ -16,7 +16,7 @@ pub returns-in_err-has-clause-acts : goal.returns-in_err-has-clause-acts
 returns-in_err-has-clause-acts g c =
     let s0 : Scene = g.F.World.scene c.args.host.now in
     let s1 : Scene = g.F.World.scene c.has.new.self in
-    look_acts g.F.World.tells (Spares (one_name c.args.name.now)) Looked (c.args.name.now ∷ []) c.has.result s0 s1 c.has.ensures.frame c.has.ensures.cause c.has.ensures.told (λ told. spares_none (one_name c.args.name.now) s0.folder)
+    spares_look g.F.World.tells (one_name c.args.name.now) Looked (c.args.name.now ∷ []) c.has.result s0 s1 c.has.ensures.frame c.has.ensures.cause c.has.ensures.told
 
 pub remove-requires : goal.remove-requires
 remove-requires g c told =
@@ -30,9 +30,10 @@ returns-then-branch-clause-acts g c =
     let s2 : Scene = g.F.World.scene c.remove.new.self in
     spares_acts g.F.World.tells on s0 s1 s2
     (look_none g.F.World.tells Looked (c.args.name.now ∷ []) c.has.result s0 s1 c.has.ensures.frame c.has.ensures.told c.in_ok-has.ensures.quiet)
-    (look_acts g.F.World.tells (Spares on) Looked (c.args.name.now ∷ []) c.has.result s0 s1 c.has.ensures.frame c.has.ensures.cause c.has.ensures.told (λ told. spares_none on s0.folder))
-    (spares_call g.F.World.tells on (ChangesNames (Removes c.args.name.now)) (spares_removed c.args.name.now) Removed (c.args.name.now ∷ []) c.remove.result s1 s2
-    c.remove.ensures.ok c.remove.ensures.err c.remove.ensures.cause c.remove.ensures.told c.remove.ensures.frame)
+    (spares_look g.F.World.tells on Looked (c.args.name.now ∷ []) c.has.result s0 s1 c.has.ensures.frame c.has.ensures.cause c.has.ensures.told)
+    (spares_of g.F.World.tells on (ChangesNames (Removes c.args.name.now)) (spares_removed c.args.name.now) s1 s2
+    (either_acts g.F.World.tells (ChangesNames (Removes c.args.name.now)) Removed (c.args.name.now ∷ []) c.remove.result s1 s2
+    c.remove.ensures.ok c.remove.ensures.err c.remove.ensures.cause c.remove.ensures.told c.remove.ensures.frame (λ told. removes_private c.args.name.now s1.folder s2.folder)))
 
 pub returns-then-branch-clause-none : goal.returns-then-branch-clause-none
 returns-then-branch-clause-none g c =
@@ -49,7 +50,7 @@ pub returns-clause-acts : goal.returns-clause-acts
 returns-clause-acts g c =
     let s0 : Scene = g.F.World.scene c.args.host.now in
     let s1 : Scene = g.F.World.scene c.has.new.self in
-    look_acts g.F.World.tells (Spares (one_name c.args.name.now)) Looked (c.args.name.now ∷ []) c.has.result s0 s1 c.has.ensures.frame c.has.ensures.cause c.has.ensures.told (λ told. spares_none (one_name c.args.name.now) s0.folder)
+    spares_look g.F.World.tells (one_name c.args.name.now) Looked (c.args.name.now ∷ []) c.has.result s0 s1 c.has.ensures.frame c.has.ensures.cause c.has.ensures.told
 
 pub returns-clause-none : goal.returns-clause-none
 returns-clause-none g c =

@@ -4,9 +4,10 @@ use Rattle.vs_host.specs.Disk.{CreatesFile}
 use Rattle.vs_host.specs.Trace.{Created}
 use Rattle.vs_host.specs.World.{Scene}
 use Rattle.vs_disk.proofs.Quiet.{none_call, none_then}
+use Rattle.vs_pair.proofs.Calls.{create_acts}
 use Rattle.vs_backup.specs.Works.{one_name}
 use Rattle.vs_backup.proofs.Frames.{spares_created, alone_created}
-use Rattle.vs_ubind.proofs.Calls.{spares_acts, spares_call}
+use Rattle.vs_ubind.proofs.Calls.{spares_acts, spares_of}
 use Rattle.vs_ubind.proofs.Told.{calls_one, calls_then}
 use Rattle.vs_ubind.proofs.storing.make_anew.Goals as goal
 
@@ -17,8 +18,9 @@ returns-clause-acts g c =
     let s1 : Scene = g.F.World.scene c.clear.new.host in
     let s2 : Scene = g.F.World.scene c.create_private.new.self in
     spares_acts g.F.World.tells on s0 s1 s2 c.in_ok-clear.ensures.none c.clear.ensures.acts
-    (spares_call g.F.World.tells on (CreatesFile c.args.name.now) (spares_created c.args.name.now) Created (c.args.name.now ∷ []) c.create_private.result s1 s2
-    c.create_private.ensures.ok c.create_private.ensures.err c.create_private.ensures.cause c.create_private.ensures.told c.create_private.ensures.frame)
+    (spares_of g.F.World.tells on (CreatesFile c.args.name.now) (spares_created c.args.name.now) s1 s2
+    (create_acts g.F.World.tells c.args.name.now c.create_private.result s1 s2
+    c.create_private.ensures.ok c.create_private.ensures.mode c.create_private.ensures.err c.create_private.ensures.cause c.create_private.ensures.told c.create_private.ensures.frame))
 
 pub returns-clause-alone : goal.returns-clause-alone
 returns-clause-alone g c =

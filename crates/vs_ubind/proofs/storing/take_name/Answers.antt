@@ -1,4 +1,4 @@
-use Rattle.std.proofs.Common.{◌≡◌, [], ◌∷◌, IsTrue, Ok, sym}
+use Rattle.std.proofs.Common.{◌≡◌, ◌∙◌, [], ◌∷◌, IsTrue, Ok, sym}
 use Rattle.std.proofs.lemmas.Bool.{true≢false}
 use Rattle.std.proofs.lemmas.Result.{on_ok_weaker}
 use Rattle.vs_host.specs.Disk.{ChangesNames, Renames, SyncsNames}
@@ -6,14 +6,18 @@ use Rattle.vs_host.specs.Trace.{Renamed, SyncedNames}
 use Rattle.vs_host.specs.World.{Scene}
 use Rattle.vs_host.specs.declared.traits.Failed.{Failed}
 use Rattle.vs_disk.specs.Images.{Takes}
+use Rattle.vs_disk.specs.Modes.{KeepsModes}
 use Rattle.vs_disk.proofs.Runs.{one_call, call_on}
 use Rattle.vs_disk.proofs.Contents.{takes_renamed, takes_then}
+use Rattle.vs_disk.proofs.Modes.{modes_renamed, modes_synced}
 use Rattle.vs_disk.proofs.Quiet.{none_call, none_then}
 use Rattle.vs_backup.specs.Works.{two_names}
 use Rattle.vs_backup.proofs.Frames.{either, spares_renamed, spares_synced, takes_spared, takes_same, settled_now, synced_renamed}
 use Rattle.vs_backup.proofs.Kept.{settled_holds}
+use Rattle.vs_backup.proofs.Modes.{mode_renamed, mode_synced}
 use Rattle.vs_backup.proofs.Replacing.{gone_renamed}
-use Rattle.vs_ubind.proofs.Calls.{spares_acts, spares_call}
+use Rattle.vs_ubind.proofs.Calls.{spares_call, spares_works}
+use Rattle.vs_ubind.proofs.Modes.{either_modes, keeps_same, modes_on}
 use Rattle.vs_ubind.proofs.Told.{stores_renamed, stores_synced}
 use Rattle.vs_ubind.proofs.storing.take_name.Goals as goal
 
@@ -38,7 +42,7 @@ returns-clause-acts g c =
     let s0 : Scene = g.F.World.scene c.args.host.now in
     let s1 : Scene = g.F.World.scene c.rename.new.self in
     let s2 : Scene = g.F.World.scene c.sync_names.new.self in
-    spares_acts g.F.World.tells on s0 s1 s2
+    spares_works g.F.World.tells on s0 s1 s2
     (none_call g.F.World.tells Renamed (c.args.from.now ∷ c.args.to.now ∷ []) c.rename.result s0 s1 c.rename.ensures.frame c.rename.ensures.told c.in_ok-rename.ensures.quiet)
     (spares_call g.F.World.tells on (ChangesNames (Renames c.args.from.now c.args.to.now)) (spares_renamed c.args.from.now c.args.to.now) Renamed (c.args.from.now ∷ c.args.to.now ∷ []) c.rename.result s0 s1
     c.rename.ensures.ok c.rename.ensures.err c.rename.ensures.cause c.rename.ensures.told c.rename.ensures.frame)
@@ -96,4 +100,32 @@ returns-clause-gone g c =
     on_ok_weaker c.sync_names.result
     (λ syncs told. gone_renamed c.args.from.now c.args.to.now (g.F.World.scene c.args.host.now).folder (g.F.World.scene c.rename.new.self).folder (g.F.World.scene c.sync_names.new.self).folder
     c.requires.differ (c.in_ok-rename.ensures.ok told) (syncs told))
+    c.sync_names.ensures.ok
+
+pub returns-in_err-rename-clause-modes : goal.returns-in_err-rename-clause-modes
+returns-in_err-rename-clause-modes g c told allowed has =
+    let s0 : Scene = g.F.World.scene c.args.host.now in
+    let s1 : Scene = g.F.World.scene c.rename.new.self in
+    one_call (KeepsModes allowed) Renamed (c.args.from.now ∷ c.args.to.now ∷ []) c.rename.result s0 s1 c.rename.ensures.frame (c.rename.ensures.told told)
+    (keeps_same allowed s0.folder s1.folder c.in_err-rename.ensures.err)
+
+pub returns-clause-modes : goal.returns-clause-modes
+returns-clause-modes g c told allowed has =
+    let from = c.args.from.now in
+    let to = c.args.to.now in
+    let s0 : Scene = g.F.World.scene c.args.host.now in
+    let s1 : Scene = g.F.World.scene c.rename.new.self in
+    let s2 : Scene = g.F.World.scene c.sync_names.new.self in
+    modes_on allowed s0 s1 s2 c.rename.ensures.frame
+    (one_call (KeepsModes allowed) Renamed (from ∷ to ∷ []) c.rename.result s0 s1 c.rename.ensures.frame (c.rename.ensures.told told) (modes_renamed allowed from to s0.folder s1.folder has (c.in_ok-rename.ensures.ok told)))
+    (either_modes allowed g.F.World.tells told SyncsNames (modes_synced allowed) SyncedNames [] c.sync_names.result s1 s2
+    c.sync_names.ensures.ok c.sync_names.ensures.err (c.sync_names.ensures.told told) c.sync_names.ensures.frame)
+
+pub returns-clause-mode : goal.returns-clause-mode
+returns-clause-mode g c =
+    let s0 : Scene = g.F.World.scene c.args.host.now in
+    let s1 : Scene = g.F.World.scene c.rename.new.self in
+    let s2 : Scene = g.F.World.scene c.sync_names.new.self in
+    on_ok_weaker c.sync_names.result
+    (λ syncs told. mode_synced c.args.to.now s1.folder s2.folder (syncs told) ∙ mode_renamed c.args.from.now c.args.to.now s0.folder s1.folder (c.in_ok-rename.ensures.ok told))
     c.sync_names.ensures.ok
