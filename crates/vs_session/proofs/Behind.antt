@@ -1,12 +1,13 @@
 -- How far the swap files are behind the pages: where no page waits for a commit, what was worked is what got another commit.
-use Rattle.std.proofs.Common.{◌≡◌, ℕ, ◌+◌, ◌*◌, ◌≤◌, List, [], sym, ◌∙◌, ap, subst, arith}
+use Rattle.std.proofs.Common.{◌≡◌, ℕ, ◌+◌, ◌*◌, ◌≤◌, [], sym, ◌∙◌, ap, subst, arith}
 use Rattle.vs_host.specs.Disk.{Disk}
 use Rattle.vs_host.specs.World.{Tells, Scene}
 use Rattle.vs_disk.specs.Runs.{CallsAtMost}
-use Rattle.vs_pages.specs.Memory.{commits_of}
+use Rattle.vs_pages.specs.Memory.{state_of}
 use Rattle.vs_pages.specs.declared.memory.MemPages.{MemPages}
 use Rattle.vs_edit.specs.Splices.{IsSmallSplice}
 use Rattle.vs_edit.specs.State.{WorksAtMost}
+use Rattle.vs_pair.specs.Pair.{shown_in}
 use Rattle.vs_pair.specs.Stale.{IsBehind}
 use Rattle.vs_pair.specs.declared.written.Written.{Written}
 use Rattle.vs_pair.proofs.Behind.{behind_changed, behind_more, behind_same}
@@ -24,10 +25,10 @@ use Rattle.vs_session.specs.SwapWrites.{ChangesLine}
 
 -- ---- pages that were worked
 
-pub behind_unworked : (old new : MemPages) (written : Written) (most : ℕ) → IsIdle old → IsIdle new → work_in new ≡ work_in old → IsBehind old written most → IsBehind new written most
+pub behind_unworked : (old new : MemPages) (written : Written) (most : ℕ) → IsIdle (state_of old) → IsIdle (state_of new) → work_in new ≡ work_in old → IsBehind old written most → IsBehind new written most
 behind_unworked old new written most idle_old idle_new same behind = behind_same old new written most (sym idle_new ∙ same ∙ idle_old) behind
 
-behind_worked : (old new : MemPages) (written : Written) (most more : ℕ) → IsIdle old → IsIdle new → WorksAtMost more (work_in old) (work_in new) → IsBehind old written most
+behind_worked : (old new : MemPages) (written : Written) (most more : ℕ) → IsIdle (state_of old) → IsIdle (state_of new) → WorksAtMost more (work_in old) (work_in new) → IsBehind old written most
     → IsBehind new written (most + more)
 behind_worked old new written most more idle_old idle_new works behind =
     behind_more new written _ (most + more) (omega (arith, works.few))
@@ -57,7 +58,7 @@ pub behind_line : (tells : Tells) (request : Request) (outcome : Outcome) (befor
     → ChangesLine tells request outcome before after was now → IsBehind before.text.pair.pages written most → IsBehind after.text.pair.pages written (most + 37)
 behind_line tells request outcome before after was now written most line behind =
     let paged = line.fits.stands.text.pages in
-    let low : before.text.tree.present.height ≤ 5 = low_paged before.text.pair.pages before.text.tree line.state.machine.text paged in
+    let low : before.text.tree.present.height ≤ 5 = low_paged (shown_in before.text.pair was) before.text.tree line.state.machine.text paged in
     behind_more after.text.pair.pages written (most + most_in before.text.tree) (most + 37) (omega (arith, low))
     (behind_worked before.text.pair.pages after.text.pair.pages written most (most_in before.text.tree) paged.idle line.fits_after.stands.text.pages.idle
     (works_line tells request outcome before after was now line) behind)

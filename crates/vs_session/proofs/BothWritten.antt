@@ -50,17 +50,19 @@ use Rattle.vs_session.specs.Session.{SessionState, after_sync, info_written, is_
 use Rattle.vs_session.specs.Failures.{FailsOnce}
 use Rattle.vs_session.specs.Wholeness.{StaysWhole}
 use Rattle.vs_session.specs.Stores.{StoresUndo}
+use Rattle.vs_session.specs.Modes.{OnlyLike, SameMode}
 use Rattle.vs_session.specs.Writes.{HasSynced, Wrote}
 use Rattle.vs_session.specs.Fits.{Answers, Fits, names_of}
-use Rattle.vs_session.specs.Made.{ClearsMade, LeavesNoneMade}
+use Rattle.vs_session.specs.Made.{LeavesNoneMade}
 use Rattle.vs_session.proofs.Cleared.{but_carried, but_stored, cleared_stored, cleared_then, moved_stored, moved_then}
 use Rattle.vs_session.proofs.Failing.{above_quiet, once_after}
 use Rattle.vs_session.proofs.Steps.{recovers_synced, risen_since, risen_until, works_runs}
 use Rattle.vs_session.proofs.FileWrites.{backup_named}
+use Rattle.vs_session.proofs.Modes.{LeavesFiles, like_looks, mode_outside, mode_then, modes_like, modes_then, private_looked}
 use Rattle.vs_session.proofs.Wholeness.{whole_then}
 use Rattle.vs_session.proofs.Stored.{fits_stored, undo_outside}
 use Rattle.vs_session.proofs.UndoNames.{backup_outside, file_outside}
-use Rattle.vs_session.proofs.Written.{Moment, answers_free, are, bytes_left, cleared_by, ended, fits_by, has_left, lacks, lead, line_is, mark, moved_by, not_lacks, recovers_on, replied_done, replied_none, stays_whole, under, written_frame, written_rises, written_runs}
+use Rattle.vs_session.proofs.Written.{Moment, answers_free, are, bytes_left, cleared_by, ended, fits_by, has_left, lacks, lead, line_is, mark, mode_by, modes_by, moved_by, not_lacks, recovers_on, replied_done, replied_none, stays_whole, under, writes, written_frame, written_rises, written_runs}
 
 -- ---- before the write
 
@@ -73,6 +75,7 @@ synced_looked state syncs before between next old mid new s reads looks quiet na
   runs = runs_then (folder.Syncing before.text before.options.write.format) (λ a b. b ≡ a) (folder.Syncing before.text before.options.write.format) old mid new (λ d syncing. syncing)
       (λ d is. subst (λ (e : Disk). folder.Syncing before.text before.options.write.format old.folder e) (sym is) s.runs.now) s.frame s.runs looks;
   quiet = quiet_then old mid new s.quiet quiet;
+  modes = private_looked old mid new s.frame s.modes looks;
   rises = subst (λ (d : Disk). Rises (names_of before) old.folder d) (sym looks.now) s.rises;
   names = names ∙ s.names;
   synced = fits;
@@ -94,6 +97,7 @@ wrote_nothing state syncs before after old new folder looks last above fits now 
       others = λ inside out apart. runs_as (λ a b. b ≡ a) (SameAt inside) old new (λ d is. subst (λ (e : Disk). SameAt inside old.folder e) (sym is) (same_none inside old.folder)) looks;
       left = runs_as (λ a b. b ≡ a) (KeepsLeft (WorksOn state.options.write (names_of before).file old.folder)) old new
           (λ d is. subst (λ (e : Disk). KeepsLeft (WorksOn state.options.write (names_of before).file old.folder) old.folder e) (sym is) (λ name out left may. may)) looks;
+      modes = λ there. like_looks (names_of before).file old new looks;
       above = above;
       calls = record {
         done = tt;
@@ -154,7 +158,7 @@ module _ (names : Names) (old new : Disk) (spares : SparesNames (two_names names
 module _ (state : SessionState) (syncs : List Sync) (instruction : Instruction) (is : is_write instruction.parsed ≡ true) (before between : Session) (old mid : Scene) (s : HasSynced state syncs before between old mid)
     (on : state.options.undofile ≡ true) (size at : ℕ) (after : Session) (made new : Scene) (second : ChangesFolder mid made) (names_after : names_of after ≡ names_of before)
     (wrote : Wrote (after_sync state true) (sync_in state true ∷ syncs) between after (Ok size) mid made) (third : ChangesFolder made new) (later : made.folder_faults ≤ new.folder_faults)
-    (stores : Runs (StoresUndo (names_of before) state.machine.text (history_marked state.machine.history)) made new) where
+    (stores : Runs (StoresUndo (names_of before) state.machine.text (history_marked state.machine.history)) made new) (likes : OnlyLike (names_of before).file made new) where
   abbrev names : Names
   names = names_of before
 
@@ -289,14 +293,17 @@ module _ (state : SessionState) (syncs : List Sync) (instruction : Instruction) 
   -- however the storing ended
   answers_by : (outcome : Outcome) (reply : Answer) → took_effect outcome ≡ true → reply ≡ reply_of state instruction (ended state syncs instruction is before between old mid s outcome at)
       → ((true && not (is_fault outcome)) ≡ true → HasUndo names text (history_marked state.machine.history) new.folder) → (is_fault outcome ≡ true → HasRisen old.folder_faults new.folder_faults)
-      → FailsOnce names state instruction (ended state syncs instruction is before between old mid s outcome at) old new → ClearsMade names state instruction (ended state syncs instruction is before between old mid s outcome at) old new → Answers state syncs instruction before after (mark state syncs instruction is before between old mid s outcome at) reply old new
-  answers_by outcome reply took replied stored cause calls cleared =
-      answers_free state syncs instruction is before between old mid s free true on after outcome at reply new names_after (λ none. refl) calls (whole_on outcome took) cleared replied
+      → FailsOnce names state instruction (ended state syncs instruction is before between old mid s outcome at) old new → LeavesFiles names state instruction (ended state syncs instruction is before between old mid s outcome at) old new → Answers state syncs instruction before after (mark state syncs instruction is before between old mid s outcome at) reply old new
+  answers_by outcome reply took replied stored cause calls files =
+      answers_free state syncs instruction is before between old mid s free true on after outcome at reply new names_after (λ none. refl) calls (whole_on outcome took) files replied
       (fits_by state syncs instruction is before between old mid s after new.folder outcome at true (written outcome took) (fits_on new.folder stores.now.spares))
       (works_runs names (Some work) (IsUnderWay names during (Some work)) Both old new (frames old made new frame third) (λ d both. both) both_runs)
       (subst (λ (done : Bool). HasWritten names write done (is_fault outcome) (state_now old) (state_now new) × HasStored names undo (done && not (is_fault outcome)) (state_now old) (state_now new)) (sym took)
       (wrote_new (is_fault outcome), record { found = refl; stored = stored }))
       both_runs.now.folder.whole rises cause
+
+  mode_made : SameMode names.file old.folder made.folder
+  mode_made = mode_by state syncs instruction is before between old mid s size after made second wrote
 
   cleared_made : LeavesNoneMade old.folder made.folder
   cleared_made = cleared_by state syncs instruction is before between old mid s after (Ok size) made second wrote (never_failed size)
@@ -326,9 +333,15 @@ module _ (state : SessionState) (syncs : List Sync) (instruction : Instruction) 
       (λ failed. risen_since old.folder_faults made.folder_faults new.folder_faults above.later (cause.risen failed))
       (once_after names state instruction (ended state syncs instruction is before between old mid s outcome at) old mid new s.quiet (calls_by outcome ended_as (took_as outcome ended_as) cause calls last quiet))
       (record {
-        left = but_carried names state instruction old.folder outcome ended_as old.folder new.folder
-            (λ done. cleared_then old.folder made.folder new.folder cleared_made (cleared_stored names named made.folder new.folder stores.now.spares (stored done).3))
-            (λ name out was. but_stored names named made.folder new.folder stores.now.spares name out (cleared_made name was));
-        moved = moved_then names named old made new (moved_by state syncs instruction is before between old mid s after (Ok size) made second wrote)
-            (moved_stored names named (StoresUndo names text (history_marked state.machine.history)) made new (λ d storing. storing.spares) stores);
+        cleared = record {
+          left = but_carried names state instruction old.folder outcome ended_as old.folder new.folder
+              (λ done. cleared_then old.folder made.folder new.folder cleared_made (cleared_stored names named made.folder new.folder stores.now.spares (stored done).3))
+              (λ name out was. but_stored names named made.folder new.folder stores.now.spares name out (cleared_made name was));
+          moved = moved_then names named old made new (moved_by state syncs instruction is before between old mid s after (Ok size) made second wrote)
+              (moved_stored names named (StoresUndo names text (history_marked state.machine.history)) made new (λ d storing. storing.spares) stores);
+        };
+        modes = modes_then names.file instruction old made new mode_made (modes_by state syncs instruction is before between old mid s after (Ok size) made second wrote)
+            (modes_like names.file instruction made new (writes state syncs instruction is before between old mid s) (λ there. likes));
+        mode = λ took. mode_then names.file old.folder made.folder new.folder mode_made
+            (λ there. mode_outside (two_names names.undo_new names.undo) names.file made.folder new.folder (file_outside names named) stores.now.spares);
       })

@@ -1,7 +1,7 @@
 -- What a session makes of what the write of its text answered.
-use Rattle.std.proofs.Common.{◌≡◌, inl, inr, ℕ, true, false, ◌==◌, string_bytes, List, Result, Err, refl, sym, ◌∙◌, ap, subst}
+use Rattle.std.proofs.Common.{◌≡◌, inl, inr, ℕ, true, false, ◌==◌, string_bytes, List, Result, Err, IsSome, refl, sym, ◌∙◌, ap, subst}
 use Rattle.std.proofs.lemmas.Bool.{cases_Bool, true≢false}
-use Rattle.vs_host.specs.Disk.{Disk, IsFolder}
+use Rattle.vs_host.specs.Disk.{Disk, IsFolder, mode_in}
 use Rattle.vs_host.specs.World.{Scene}
 use Rattle.vs_text.specs.Documents.{file_in}
 use Rattle.vs_disk.specs.Runs.{Runs}
@@ -22,6 +22,7 @@ use Rattle.vs_desk.specs.Writes.{KeepsSwap, WritesFile}
 use Rattle.vs_session.specs.declared.session.Session.{Session}
 use Rattle.vs_session.specs.Session.{SessionState, info_written, is_fault, line_by}
 use Rattle.vs_session.specs.Writes.{Wrote, info_of, outcome_to, reply_to, state_to}
+use Rattle.vs_session.specs.Modes.{OnlyLike}
 use Rattle.vs_session.specs.Fits.{Fits, names_of}
 use Rattle.vs_session.proofs.Written.{Refuses, err_of}
 
@@ -29,14 +30,15 @@ use Rattle.vs_session.proofs.Written.{Refuses, err_of}
 pub wrote : (state : SessionState) (syncs : List Sync) (before after : Session) (old new : Scene) (result : Result ℕ WriteErr) → Fits before old.folder state syncs
     → WritesFile before.options.write (names_of before) (file_in before.options.write.format state.machine.text) old new result → (result ≡ Err error.NoBackupName → IsNoName before.options.write (names_of before).file true old.folder)
     → Runs (KeepsSwap (names_of before) (recoverable syncs)) old new → IsFolder old.folder → SparesOthers (WorksOn before.options.write (names_of before).file old.folder) old new
-    → Runs (KeepsLeft (WorksOn before.options.write (names_of before).file old.folder)) old new → NoneAbove old new → FailsNoEarlier (names_of before).file (file_in before.options.write.format state.machine.text) old new result → Fits after new.folder (state_to state result) syncs → Wrote state syncs before after result old new
-wrote state syncs before after old new result fits file no_name swap folder others left above calls now = record {
+    → Runs (KeepsLeft (WorksOn before.options.write (names_of before).file old.folder)) old new → (IsSome (mode_in old.folder (names_of before).file) → OnlyLike (names_of before).file old new) → NoneAbove old new → FailsNoEarlier (names_of before).file (file_in before.options.write.format state.machine.text) old new result → Fits after new.folder (state_to state result) syncs → Wrote state syncs before after result old new
+wrote state syncs before after old new result fits file no_name swap folder others left modes above calls now = record {
   file = subst (λ (o : Options). WritesFile o.write (names_of before) (file_in o.write.format state.machine.text) old new result) fits.options file;
   no_name = λ is. subst (λ (o : Options). IsNoName o.write (names_of before).file true old.folder) fits.options (no_name is);
   swap = swap;
   folder = folder;
   others = subst (λ (o : Options). SparesOthers (WorksOn o.write (names_of before).file old.folder) old new) fits.options others;
   left = subst (λ (o : Options). Runs (KeepsLeft (WorksOn o.write (names_of before).file old.folder)) old new) fits.options left;
+  modes = modes;
   above = above;
   calls = subst (λ (o : Options). FailsNoEarlier (names_of before).file (file_in o.write.format state.machine.text) old new result) fits.options calls;
   fits = now;

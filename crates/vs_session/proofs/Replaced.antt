@@ -29,7 +29,7 @@ use Rattle.vs_session.specs.declared.taking.TakeErr.TheVariants as take
 use Rattle.vs_session.specs.Taken.{IsTaken, outcome_by, taken_reply}
 use Rattle.vs_session.specs.Session.{SessionState, Ended, HasFound, after_sync, answered, begins_after, begins_sync, carried, history_by, history_in, history_taken, is_fault, is_rundo, is_saved, is_write, lacks_name, options_after, quits, reply_of, session_reply, state_after, sync_in, undo_work, with_history, work_of, write_work, written_state}
 use Rattle.vs_session.specs.Fits.{Answers, Fits, names_of}
-use Rattle.vs_session.proofs.Cleared.{cleared_same, clears_none, moved_looks}
+use Rattle.vs_session.proofs.Modes.{leaves_looked}
 use Rattle.vs_session.proofs.Failing.{once_stops}
 use Rattle.vs_session.proofs.Wholeness.{whole_unbegun}
 use Rattle.vs_session.proofs.SessionLemmas.{carried_still, saved_is}
@@ -210,7 +210,7 @@ module _ (state : SessionState) (syncs : List Sync) (instruction : Instruction) 
   answers_read =
       assemble_read state syncs instruction before old (never_quits instruction.parsed _ is) fits after mark false read reply new None None found
       (once_stops names state instruction ended tells old new told (ap (λ (w : Bool). ((w && false) && not lacks) && took_effect outcome) (writes_none instruction.parsed is)) stops)
-      (whole_unbegun names state instruction ended old new (ap (λ (w : Bool). (w && false) && not lacks) (writes_none instruction.parsed is))) (clears_none names state instruction ended old new (cleared_same old.folder new.folder looks.now) (moved_looks names fits.stands.text.fit.named old new looks)) (ap (λ (c : Bool). cond c (Some (sync_in state false)) None) none_begun) work replied_as now
+      (whole_unbegun names state instruction ended old new (ap (λ (w : Bool). (w && false) && not lacks) (writes_none instruction.parsed is))) (leaves_looked names fits.stands.text.fit.named state instruction ended old new looks) (ap (λ (c : Bool). cond c (Some (sync_in state false)) None) none_begun) work replied_as now
       (record {
         works = works_looks names (IsUnderWay names syncs None) old new frame (no_write names syncs old.folder (recovers_synced names before old.folder state syncs refl fits)) looks;
         found = refl;

@@ -3,7 +3,7 @@ use Rattle.std.proofs.Common.{◌≡◌, inl, inr, ℕ, ◌≤◌, Bool, true, f
 use Rattle.std.specs.Str.{bytes_eq}
 use Rattle.std.proofs.lemmas.Bool.{true≢false, cases_Bool}
 use Rattle.vs_faults.specs.Faults.{HasCause, HasRisen}
-use Rattle.vs_host.specs.Disk.{Disk, Name}
+use Rattle.vs_host.specs.Disk.{Disk, Name, mode_in}
 use Rattle.vs_host.specs.Trace.{Snapshot}
 use Rattle.vs_host.specs.World.{Scene, Tells, ChangesFolder, ChangesClock, ReadsFolder}
 use Rattle.vs_host.specs.declared.names.Names.{Names}
@@ -37,10 +37,12 @@ use Rattle.vs_session.specs.declared.taking.TakeErr.{TakeErr}
 use Rattle.vs_session.specs.declared.taking.TakeErr.TheVariants as take
 use Rattle.vs_session.specs.Session.{SessionState, Ended, HasFound, accepts_quit, after_sync, answered, begins_after, begins_sync, carried, history_by, history_taken, is_fault, is_rundo, is_write, is_wundo, lacks_name, own_reply, reply_of, session_reply, state_after, stores_both, sync_in, sync_of, undo_work, uses_files, with_history, work_of, write_work, writes_files, written_state, has_written, document_in}
 use Rattle.vs_session.specs.Fits.{Answers, Fits, HasSyncs, IsStep, Leaves, names_of}
-use Rattle.vs_session.specs.Made.{ClearsMade, LeavesNoneMade, StaysMoved}
+use Rattle.vs_session.specs.Made.{LeavesNoneMade, StaysMoved}
 use Rattle.vs_session.specs.Failures.{FailsOnce}
 use Rattle.vs_session.specs.Wholeness.{StaysWhole}
+use Rattle.vs_session.specs.Modes.{OnlyPrivate}
 use Rattle.vs_session.proofs.Cleared.{cleared_same, cleared_synced, cleared_then, clears_none, moved_apart, moved_looks, moved_then}
+use Rattle.vs_session.proofs.Modes.{LeavesFiles, leaves_looked, mode_looks, mode_synced, modes_looks, modes_private, modes_then}
 use Rattle.vs_session.proofs.Failing.{once_after, once_stops, once_unwritten, quiet_clock}
 use Rattle.vs_session.proofs.SessionLemmas.{counted_same}
 use Rattle.vs_session.proofs.Wholeness.{whole_clock, whole_unbegun}
@@ -255,11 +257,11 @@ module _ (state : SessionState) (syncs : List Sync) (instruction : Instruction) 
   -- the answer, by the sync and the write that the command began, and by what it read
   pub assemble_read : (after : Session) (mark : Mark) (acknowledged : Bool) (read : Result History TakeErr) (reply : Answer) (new : Scene) (sync : Option Sync) (write : Option FileWork)
       → let ended : Ended = record { mark = mark; acknowledged = acknowledged; found = old.folder; read = read } in
-      HasFound state instruction ended → FailsOnce (names_of before) state instruction ended old new → StaysWhole (names_of before) state instruction ended old new → ClearsMade (names_of before) state instruction ended old new → sync_of state instruction ended ≡ sync → work_of state instruction ended ≡ write → reply ≡ reply_of state instruction ended
+      HasFound state instruction ended → FailsOnce (names_of before) state instruction ended old new → StaysWhole (names_of before) state instruction ended old new → LeavesFiles (names_of before) state instruction ended old new → sync_of state instruction ended ≡ sync → work_of state instruction ended ≡ write → reply ≡ reply_of state instruction ended
       → Fits after new.folder (state_after state instruction ended) (with_sync sync syncs)
       → Stepped (names_of before) syncs (record { found = Some old.folder; sync = sync; write = write; done = took_effect mark.outcome; failed = is_fault mark.outcome; reply = (reply_of state instruction ended).bytes }) old new
       → Answers state syncs instruction before after mark reply old new
-  assemble_read after mark acknowledged read reply new sync write found calls whole cleared sync_is write_is replied now stepped =
+  assemble_read after mark acknowledged read reply new sync write found calls whole files sync_is write_is replied now stepped =
       let ended : Ended = record { mark = mark; acknowledged = acknowledged; found = old.folder; read = read } in
       record {
         not_quit = goes_on;
@@ -272,21 +274,27 @@ module _ (state : SessionState) (syncs : List Sync) (instruction : Instruction) 
             (λ i. record { found = Some old.folder; sync = sym sync_is i; write = sym write_is i; done = took_effect mark.outcome; failed = is_fault mark.outcome; reply = (reply_of state instruction ended).bytes }) stepped;
         calls = calls;
         whole = whole;
-        cleared = cleared;
+        cleared = files.cleared;
+        modes = files.modes;
+        mode = files.mode;
       }
 
   -- that of a command which reads no undo file
   pub assemble : (after : Session) (mark : Mark) (acknowledged : Bool) (reply : Answer) (new : Scene) (sync : Option Sync) (write : Option FileWork) → is_rundo instruction.parsed ≡ false
-      → (mark.outcome ≡ NoUndo → stores_both state instruction (ended_with mark acknowledged) ≡ true) → FailsOnce (names_of before) state instruction (ended_with mark acknowledged) old new → StaysWhole (names_of before) state instruction (ended_with mark acknowledged) old new → ClearsMade (names_of before) state instruction (ended_with mark acknowledged) old new → sync_of state instruction (ended_with mark acknowledged) ≡ sync → work_of state instruction (ended_with mark acknowledged) ≡ write → reply ≡ reply_of state instruction (ended_with mark acknowledged)
+      → (mark.outcome ≡ NoUndo → stores_both state instruction (ended_with mark acknowledged) ≡ true) → FailsOnce (names_of before) state instruction (ended_with mark acknowledged) old new → StaysWhole (names_of before) state instruction (ended_with mark acknowledged) old new → LeavesFiles (names_of before) state instruction (ended_with mark acknowledged) old new → sync_of state instruction (ended_with mark acknowledged) ≡ sync → work_of state instruction (ended_with mark acknowledged) ≡ write → reply ≡ reply_of state instruction (ended_with mark acknowledged)
       → Fits after new.folder (state_after state instruction (ended_with mark acknowledged)) (with_sync sync syncs)
       → Stepped (names_of before) syncs (record { found = Some old.folder; sync = sync; write = write; done = took_effect mark.outcome; failed = is_fault mark.outcome; reply = (reply_of state instruction (ended_with mark acknowledged)).bytes }) old new
       → Answers state syncs instruction before after mark reply old new
-  assemble after mark acknowledged reply new sync write none both calls whole cleared sync_is write_is replied now stepped =
-      assemble_read after mark acknowledged unread reply new sync write (record { read = λ reads. absurd (true≢false (sym reads ∙ none)); unstored = both }) calls whole cleared sync_is write_is replied now stepped
+  assemble after mark acknowledged reply new sync write none both calls whole files sync_is write_is replied now stepped =
+      assemble_read after mark acknowledged unread reply new sync write (record { read = λ reads. absurd (true≢false (sym reads ∙ none)); unstored = both }) calls whole files sync_is write_is replied now stepped
 
   -- a sync leaves no file under a name under which files are made
   synced_clears : (new : Scene) → Runs (folder.Syncing before.text before.options.write.format) old new → LeavesNoneMade old.folder new.folder × StaysMoved (names_of before) old new
   synced_clears new runs = synced_none before old new state syncs fits (runs_as (folder.Syncing before.text before.options.write.format) (SameAt (is_apart (names_of before))) old new (λ d inside. inside.spared state.machine.text syncs fits.stands.text) runs)
+
+  -- and leaves the mode of the file
+  synced_mode : (new : Scene) → Runs (folder.Syncing before.text before.options.write.format) old new → mode_in new.folder (names_of before).file ≡ mode_in old.folder (names_of before).file
+  synced_mode new runs = mode_synced (names_of before) fits.stands.text.fit.named old.folder new.folder (runs.now.spared state.machine.text syncs fits.stands.text)
 
   sync_is : (b : Bool) (mark : Mark) (acknowledged : Bool) → begins ≡ b → sync_of state instruction (ended_with mark acknowledged) ≡ cond b (Some (sync_in state acknowledged)) None
   sync_is b mark acknowledged is = ap (λ (c : Bool). cond c (Some (sync_in state acknowledged)) None) is
@@ -324,7 +332,7 @@ module _ (state : SessionState) (syncs : List Sync) (instruction : Instruction) 
         → Fits after new.folder (carried state instruction mark) syncs → Answers state syncs instruction before after mark reply old new
     answers_plainly tells told after mark reply new stored none names frame looks stops cause replied now =
         assemble after mark false reply new None None (plain_read instruction.parsed plain) (λ is. absurd (stored is))
-        (once_stops (names_of before) state instruction (ended_with mark false) tells old new told (unwritten mark false) stops) (unbegun mark false new) (clears_none (names_of before) state instruction (ended_with mark false) old new (cleared_same old.folder new.folder looks.now) (moved_looks (names_of before) fits.stands.text.fit.named old new looks)) (sync_is false mark false none) (no_file mark false) (replied_plainly mark false reply replied) (plainly after mark false new false syncs none now)
+        (once_stops (names_of before) state instruction (ended_with mark false) tells old new told (unwritten mark false) stops) (unbegun mark false new) (leaves_looked (names_of before) fits.stands.text.fit.named state instruction (ended_with mark false) old new looks) (sync_is false mark false none) (no_file mark false) (replied_plainly mark false reply replied) (plainly after mark false new false syncs none now)
         (record {
           works = works_looks (names_of before) (IsUnderWay (names_of before) syncs None) old new frame
               (no_write (names_of before) syncs old.folder (recovers_synced (names_of before) before old.folder state syncs refl fits)) looks;
@@ -338,28 +346,37 @@ module _ (state : SessionState) (syncs : List Sync) (instruction : Instruction) 
 
     -- a sync that was acknowledged, and the command after it
     pub answers_synced : (tells : Tells) → IsTrue tells.folder → (between after : Session) (mark : Mark) (reply : Answer) (mid new : Scene) → (mark.outcome ≡ NoUndo → ⊥) → begins ≡ true → names_of between ≡ names_of before → names_of after ≡ names_of before → ChangesFolder old mid
-        → Runs (folder.Syncing before.text before.options.write.format) old mid → Quiet old mid → old.folder_faults ≤ mid.folder_faults → Rises (names_of before) old.folder mid.folder → Fits between mid.folder (after_sync state true) (sync_in state true ∷ syncs)
+        → Runs (folder.Syncing before.text before.options.write.format) old mid → OnlyPrivate old mid → Quiet old mid → old.folder_faults ≤ mid.folder_faults → Rises (names_of before) old.folder mid.folder → Fits between mid.folder (after_sync state true) (sync_in state true ∷ syncs)
         → ReadsFolder mid new → Looks mid new → StopsAtFault tells (is_fault mark.outcome ≡ true) mid new → HasCause mid.folder_faults new.folder_faults (is_fault mark.outcome ≡ true)
         → reply ≡ answered mark.outcome (own_reply instruction.parsed) (machine.reply_of state.machine instruction mark)
         → Fits after new.folder (carried (after_sync state true) instruction mark) (sync_in state true ∷ syncs) → Answers state syncs instruction before after mark reply old new
-    answers_synced tells told between after mark reply mid new stored begun same names frame runs quiet later rises synced second looks stops cause replied now =
+    answers_synced tells told between after mark reply mid new stored begun same names frame runs private quiet later rises synced second looks stops cause replied now =
         assemble after mark true reply new (Some (sync_in state true)) None (plain_read instruction.parsed plain) (λ is. absurd (stored is))
         (let ended = ended_with mark true in once_after (names_of before) state instruction ended old mid new quiet (once_stops (names_of before) state instruction ended tells mid new told (unwritten mark true) stops))
         (unbegun mark true new)
-        (clears_none (names_of before) state instruction (ended_with mark true) old new
-        (cleared_then old.folder mid.folder new.folder (synced_clears mid runs).0 (cleared_same mid.folder new.folder looks.now))
-        (moved_then (names_of before) fits.stands.text.fit.named old mid new (synced_clears mid runs).1 (moved_looks (names_of before) fits.stands.text.fit.named mid new looks))) (sync_is true mark true begun) (no_file mark true) (replied_plainly mark true reply replied) (plainly after mark true new true (sync_in state true ∷ syncs) begun now)
+        (record {
+          cleared = clears_none (names_of before) state instruction (ended_with mark true) old new
+              (cleared_then old.folder mid.folder new.folder (synced_clears mid runs).0 (cleared_same mid.folder new.folder looks.now))
+              (moved_then (names_of before) fits.stands.text.fit.named old mid new (synced_clears mid runs).1 (moved_looks (names_of before) fits.stands.text.fit.named mid new looks));
+          modes = modes_then (names_of before).file instruction old mid new (λ there. synced_mode mid runs) (modes_private (names_of before).file instruction old mid private)
+              (modes_looks (names_of before).file instruction mid new looks);
+          mode = λ written there. mode_looks (names_of before).file mid new looks ∙ synced_mode mid runs;
+        }) (sync_is true mark true begun) (no_file mark true) (replied_plainly mark true reply replied) (plainly after mark true new true (sync_in state true ∷ syncs) begun now)
         (looked_synced before after state syncs (carried (after_sync state true) instruction mark) (took_effect mark.outcome) (is_fault mark.outcome) (reply_of state instruction (ended_with mark true)).bytes old mid new fits between same names frame runs rises synced
         (ap (λ (s : Scene). s.folder) second) (reads_change mid new second) looks (λ failed. risen_since old.folder_faults mid.folder_faults new.folder_faults later (cause.risen failed)) now)
 
   -- a sync that failed
-  pub answers_failed : (after : Session) (at : ℕ) (reply : Answer) (new : Scene) → begins ≡ true → names_of after ≡ names_of before → ChangesFolder old new → Runs (folder.Syncing before.text before.options.write.format) old new → FailsLast old new
+  pub answers_failed : (after : Session) (at : ℕ) (reply : Answer) (new : Scene) → begins ≡ true → names_of after ≡ names_of before → ChangesFolder old new → Runs (folder.Syncing before.text before.options.write.format) old new → OnlyPrivate old new → FailsLast old new
       → HasRisen old.folder_faults new.folder_faults → reply ≡ refuses device_fault → (Rises (names_of before) old.folder new.folder → ⊥) → Fits after new.folder state (sync_in state false ∷ syncs)
       → Answers state syncs instruction before after (record { outcome = Fault; at = at }) reply old new
-  answers_failed after at reply new begun names frame runs last risen replied none now =
+  answers_failed after at reply new begun names frame runs private last risen replied none now =
       assemble after mark false reply new (Some (sync_in state false)) None (begun_read state.steps instruction.parsed begun) (λ is. absurd (cc))
       (once_unwritten (names_of before) state instruction (ended_with mark false) old new (and_false _) last (λ calm. absurd (true≢false calm)))
-      (whole_unbegun (names_of before) state instruction (ended_with mark false) old new (ap (λ (w : Bool). w && not lacks) (and_false writes))) (clears_none (names_of before) state instruction (ended_with mark false) old new (synced_clears new runs).0 (synced_clears new runs).1) (sync_is true mark false begun)
+      (whole_unbegun (names_of before) state instruction (ended_with mark false) old new (ap (λ (w : Bool). w && not lacks) (and_false writes))) (record {
+        cleared = clears_none (names_of before) state instruction (ended_with mark false) old new (synced_clears new runs).0 (synced_clears new runs).1;
+        modes = modes_private (names_of before).file instruction old new private;
+        mode = λ written there. synced_mode new runs;
+      }) (sync_is true mark false begun)
       (ap (λ (w : Bool). cond (w && not lacks) (Some (write_work state old.folder)) (undo_work state old.folder instruction.parsed)) (and_false writes)
       ∙ begun_work state.steps state old.folder instruction.parsed begun) replied stays
       (record {
@@ -418,6 +435,8 @@ answers_from state syncs instruction before after mark reply old mid new clock i
       calls = once_after (names_of before) state instruction now.ended old (record old { answers = mid.answers }) new (quiet_clock old mid.answers) now.calls;
       whole = whole_clock (names_of before) state instruction now.ended old mid.answers new now.whole;
       cleared = record { left = now.cleared.left; moved = now.cleared.moved };
+      modes = record { each = λ allowed owner given. now.modes.each allowed owner given };
+      mode = now.mode;
     }
 
 -- ---- the end of a session leaves no file under a name under which files are made

@@ -40,12 +40,14 @@ use Rattle.vs_safety.specs.Safety.{IsUnderWay, Spares, Works}
 use Rattle.vs_paged.proofs.SyncLemmas.{fits_kept, fits_recovers}
 use Rattle.vs_desk.proofs.Left.{goes_both}
 use Rattle.vs_session.specs.declared.session.Session.{Session}
-use Rattle.vs_session.specs.Session.{SessionState, Ended, accepts_quit, after_sync, answered, begins_after, begins_sync, carried, is_fault, is_rundo, is_write, is_wundo, lacks_name, options_after, quits, reply_of, session_reply, state_after, sync_in, undo_in, undo_work, with_history, work_of, write_work, written_state}
+use Rattle.vs_session.specs.Session.{SessionState, Ended, accepts_quit, after_sync, answered, begins_after, begins_sync, carried, has_written, is_fault, is_rundo, is_write, is_wundo, lacks_name, options_after, quits, reply_of, session_reply, state_after, sync_in, undo_in, undo_work, with_history, work_of, write_work, written_state}
 use Rattle.vs_session.specs.Stores.{StoresUndo}
 use Rattle.vs_session.specs.Fits.{Answers, Fits, names_of}
 use Rattle.vs_session.specs.Made.{IsLeftBy, LeavesNoneBut}
 use Rattle.vs_session.proofs.Cleared.{but_stored, cleared_same, cleared_stored, moved_stored, swap_name}
+use Rattle.vs_session.specs.Modes.{OnlyLike}
 use Rattle.vs_session.proofs.Failing.{once_stops}
+use Rattle.vs_session.proofs.Modes.{modes_like, writes_undo}
 use Rattle.vs_session.proofs.Wholeness.{whole_unbegun}
 use Rattle.vs_session.proofs.SessionLemmas.{carried_still}
 use Rattle.vs_session.proofs.UndoNames.{new_name, undo_apart}
@@ -193,7 +195,7 @@ options_stay options NoUndo parsed is = absurd (true≢false (sym is))
 
 module _ (state : SessionState) (syncs : List Sync) (instruction : Instruction) (before : Session) (old : Scene) (fits : Fits before old.folder state syncs) (is : is_wundo instruction.parsed ≡ true) (after : Session)
     (outcome : Outcome) (at : ℕ) (reply : Answer) (new : Scene) (names_after : names_of after ≡ names_of before) (frame : ChangesFolder old new)
-    (tells : Tells) (told : IsTrue tells.folder) (stops : StopsAtFault tells (is_fault outcome ≡ true) old new) (runs : Runs (StoresUndo (names_of before) state.machine.text state.machine.history) old new)
+    (tells : Tells) (told : IsTrue tells.folder) (stops : StopsAtFault tells (is_fault outcome ≡ true) old new) (runs : Runs (StoresUndo (names_of before) state.machine.text state.machine.history) old new) (likes : OnlyLike (names_of before).file old new)
     (stored : outcome ≡ Done → HasUndo (names_of before) state.machine.text state.machine.history new.folder) (idle : outcome ≡ NoMemory → new.folder ≡ old.folder) (cause : HasCause old.folder_faults new.folder_faults (is_fault outcome ≡ true)) (never : outcome ≡ NoUndo → ⊥)
     (reply_to : reply ≡ answered outcome (Some (says undo_file_written)) (machine.reply_of state.machine instruction (record { outcome = outcome; at = at }))) (left : Fits after new.folder state syncs) where
   abbrev names : Names
@@ -280,12 +282,19 @@ module _ (state : SessionState) (syncs : List Sync) (instruction : Instruction) 
   made_left Fault at = λ made out was. but_stored names named old.folder new.folder runs.now.spares made (λ same. out (inr (is, same))) was
   made_left NoUndo at = absurd (never at)
 
+  unwritten : has_written state instruction ended ≡ false
+  unwritten = ap (λ (w : Bool). ((w && false) && not lacks) && took_effect outcome) (no_write instruction.parsed is)
+
   pub answers_stored : Answers state syncs instruction before after mark reply old new
   answers_stored =
       assemble state syncs instruction before old goes_on fits after mark false reply new None (Some (UndoFile undo)) (no_read instruction.parsed is) (λ unstored. absurd (never unstored))
-      (once_stops names state instruction ended tells old new told (ap (λ (w : Bool). ((w && false) && not lacks) && took_effect outcome) (no_write instruction.parsed is)) stops)
+      (once_stops names state instruction ended tells old new told unwritten stops)
       (whole_unbegun names state instruction ended old new (ap (λ (w : Bool). (w && false) && not lacks) (no_write instruction.parsed is)))
-      (record { left = made_left outcome refl; moved = moved_stored names named (StoresUndo names state.machine.text state.machine.history) old new (λ d storing. storing.spares) runs }) (ap (λ (c : Bool). cond c (Some (sync_in state false)) None) none_begun) work replied_as now
+      (record {
+        cleared = record { left = made_left outcome refl; moved = moved_stored names named (StoresUndo names state.machine.text state.machine.history) old new (λ d storing. storing.spares) runs };
+        modes = modes_like names.file instruction old new (writes_undo instruction.parsed is) (λ there. likes);
+        mode = λ written. absurd (true≢false (sym written ∙ unwritten));
+      }) (ap (λ (c : Bool). cond c (Some (sync_in state false)) None) none_begun) work replied_as now
       (record {
         found = refl;
         works = works;

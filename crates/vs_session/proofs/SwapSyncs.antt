@@ -1,5 +1,5 @@
 -- Where a step begins with a sync, what is said of that sync is said of the step.
-use Rattle.std.proofs.Common.{◌≡◌, ℕ, ◌+◌, Bool, true, false, List, IsTrue, length, sym, subst, ◌∙◌, ap, arith}
+use Rattle.std.proofs.Common.{◌≡◌, ℕ, ◌+◌, Bool, true, false, List, length, sym, subst, ap, arith}
 use Rattle.vs_host.specs.World.{Tells, Scene}
 use Rattle.vs_host.specs.Trace.{Snapshot}
 use Rattle.vs_disk.specs.Runs.{CallsAtMost}

@@ -1,9 +1,9 @@
 -- The answer to `w`, after the sync that it begins was acknowledged: the moments of the sync and of the write one after the other, and
 -- what is left.
-use Rattle.std.proofs.Common.{◌≡◌, ◌⊎◌, inl, inr, ℕ, ◌≤◌, Bool, true, false, cond, ◌&&◌, not, length, List, [], ◌∷◌, Option, Some, None, Result, Ok, Err, IfOk, OnErr, is_ok, IsErr, refl, sym, ◌∙◌, ap, subst}
+use Rattle.std.proofs.Common.{◌≡◌, ◌⊎◌, inl, inr, ℕ, ◌≤◌, Bool, true, false, cond, ◌&&◌, not, length, List, [], ◌∷◌, Option, Some, None, Result, Ok, Err, IfOk, OnErr, is_ok, IsErr, IsSome, refl, sym, ◌∙◌, ap, subst}
 use Rattle.std.proofs.lemmas.Bool.{true≢false, cases_Bool}
 use Rattle.vs_faults.specs.Faults.{HasCause, HasRisen}
-use Rattle.vs_host.specs.Disk.{Disk, Name, content_in}
+use Rattle.vs_host.specs.Disk.{Disk, Name, content_in, mode_in}
 use Rattle.vs_host.specs.Names.{AreNames, temporary}
 use Rattle.vs_host.specs.Trace.{Snapshot, GoesOn}
 use Rattle.vs_host.specs.World.{Scene, ChangesFolder}
@@ -44,10 +44,11 @@ use Rattle.vs_desk.specs.Writes.{KeepsSwap, WritesFile}
 use Rattle.vs_desk.proofs.Left.{goes_both}
 use Rattle.vs_desk.proofs.Stillness.{still_fits}
 use Rattle.vs_session.specs.declared.session.Session.{Session}
-use Rattle.vs_session.specs.Session.{SessionState, Ended, accepts_quit, after_sync, answered, begins_sync, carried, is_fault, info_written, is_write, lacks_name, line_by, reply_of, state_after, sync_in, undo_after, undo_work, with_history, write_in, write_reply, write_work, written_state, document_in}
+use Rattle.vs_session.specs.Session.{SessionState, Ended, accepts_quit, after_sync, answered, begins_sync, carried, is_fault, info_written, is_write, lacks_name, line_by, reply_of, state_after, sync_in, undo_after, undo_work, with_history, write_in, write_reply, write_work, writes_files, written_state, document_in}
+use Rattle.vs_session.specs.Modes.{KeepsReaders, OnlyLike, SameMode}
 use Rattle.vs_session.specs.Writes.{HasSynced, Wrote}
 use Rattle.vs_session.specs.Fits.{Answers, Fits, names_of}
-use Rattle.vs_session.specs.Made.{ClearsMade, LeavesNoneBut, LeavesNoneMade, StaysMoved, WritesUnder}
+use Rattle.vs_session.specs.Made.{LeavesNoneBut, LeavesNoneMade, StaysMoved, WritesUnder}
 use Rattle.vs_session.specs.Failures.{FailsOnce, StopsWriting}
 use Rattle.vs_session.specs.Wholeness.{BecomesWhole, StaysUntouched, StaysWhole}
 use Rattle.vs_session.proofs.Cleared.{but_refused, cleared_same, cleared_synced, cleared_then, cleared_written, clears_none, gone_spared, moved_apart, moved_looks, moved_then, moved_write}
@@ -57,6 +58,7 @@ use Rattle.vs_session.proofs.FileWrites.{undo_same, works_same}
 use Rattle.vs_session.proofs.Wholeness.{becomes, whole_unbegun}
 use Rattle.vs_session.proofs.UndoNames.{undo_unworked}
 use Rattle.vs_session.proofs.WriteCommand.{begins_is, carried_on, never_quits, no_read, no_undo, reply_is}
+use Rattle.vs_session.proofs.Modes.{LeavesFiles, mode_synced, mode_then, mode_written, modes_like, modes_private, modes_then, writes_file}
 use Rattle.vs_session.proofs.WriteMoments.{IsAlone, IsIdle, alone_by, facts, has_written, keeps_moments, keeps_now, keeps_synced, lacks_looks, named_lacks, whole_moments, whole_synced}
 
 -- what a write did, for these names
@@ -66,6 +68,7 @@ record Did (names : Names) (options : WriteOptions) (text : Text) (syncs : List 
   pub swap : Runs (KeepsSwap names (recoverable syncs)) mid new
   pub others : SparesOthers (WorksOn options names.file mid.folder) mid new
   pub left : Runs (KeepsLeft (WorksOn options names.file mid.folder)) mid new
+  pub modes : IsSome (mode_in mid.folder names.file) → OnlyLike names.file mid new
   pub calls : FailsNoEarlier names.file (file_in options.format text) mid new result
 
 -- A moment of the write, over a folder as the command found it.
@@ -188,6 +191,12 @@ module _ (state : SessionState) (syncs : List Sync) (instruction : Instruction) 
   sync_apart : GoesOn (λ m. SameAt (is_apart names) old.folder m.folder) old.trace mid.trace
   sync_apart = goes_weaker (Inside old (folder.Syncing before.text before.options.write.format old.folder)) (λ m. SameAt (is_apart names) old.folder m.folder) (λ m inside. inside.folder.spared text syncs s.fits.stands.text) old.trace mid.trace s.runs.moments
 
+  sync_mode : mode_in mid.folder names.file ≡ mode_in old.folder names.file
+  sync_mode = mode_synced names are old.folder mid.folder same
+
+  pub writes : writes_files instruction.parsed ≡ true
+  writes = writes_file instruction.parsed is
+
   sync_moved : StaysMoved names old mid
   sync_moved = moved_apart names are old mid sync_apart same
 
@@ -199,7 +208,7 @@ module _ (state : SessionState) (syncs : List Sync) (instruction : Instruction) 
 
   module _ (after : Session) (result : Result ℕ WriteErr) (new : Scene) (second : ChangesFolder mid new) (wrote : Wrote (after_sync state true) all between after result mid new) where
     did : Did names options text all mid new result
-    did = subst (λ (n : Names). Did n options text all mid new result) s.names (record { file = wrote.file; no_name = wrote.no_name; swap = wrote.swap; others = wrote.others; left = wrote.left; calls = wrote.calls })
+    did = subst (λ (n : Names). Did n options text all mid new result) s.names (record { file = wrote.file; no_name = wrote.no_name; swap = wrote.swap; others = wrote.others; left = wrote.left; modes = wrote.modes; calls = wrote.calls })
 
     abbrev Base : Snapshot → Type 0
     Base m = Inside mid (KeepsSwap names (recoverable all) mid.folder) m
@@ -278,6 +287,10 @@ module _ (state : SessionState) (syncs : List Sync) (instruction : Instruction) 
     pub moved_by : StaysMoved names old new
     moved_by = moved_then names are old mid new sync_moved (moved_write names are options mid new did.others)
 
+    -- what it makes has a mode of the file
+    pub modes_by : KeepsReaders names.file instruction old new
+    modes_by = modes_then names.file instruction old mid new (λ there. sync_mode) (modes_private names.file instruction old mid s.modes) (modes_like names.file instruction mid new writes did.modes)
+
     pub bytes_left : IfOk result (λ size. (size ≡ length (file_in options.format text)) × HoldsBytes names.file (file_in options.format text) new.folder)
     bytes_left = (facts names are options text old.folder mid new same result did.file old.folder_faults later).written
 
@@ -290,6 +303,12 @@ module _ (state : SessionState) (syncs : List Sync) (instruction : Instruction) 
 
     never : lacks ≡ false → result ≡ Err error.NoBackupName → ⊥
     never free none = true≢false (sym (named_lacks names are options text old.folder mid new same result did.file old.folder_faults later (did.no_name none)) ∙ lacks_here ∙ free)
+
+  -- the file has the mode that it had
+  module _ (size : ℕ) (after : Session) (new : Scene) (second : ChangesFolder mid new) (wrote : Wrote (after_sync state true) all between after (Ok size) mid new) where
+    pub mode_by : SameMode names.file old.folder new.folder
+    mode_by = mode_then names.file old.folder mid.folder new.folder (λ there. sync_mode)
+        (mode_written options names (file_in options.format text) mid new size (did after (Ok size) new second wrote).file)
 
   -- ---- what it is to the run
 
@@ -317,13 +336,13 @@ module _ (state : SessionState) (syncs : List Sync) (instruction : Instruction) 
 
   -- where the file may be written
   module _ (free : lacks ≡ false) (b : Bool) (flag : state.options.undofile ≡ b) where
-    pub answers_free : (after : Session) (outcome : Outcome) (at : ℕ) (reply : Answer) (new : Scene) → names_of after ≡ names → (outcome ≡ NoUndo → b ≡ true) → FailsOnce names state instruction (ended outcome at) old new → StaysWhole names state instruction (ended outcome at) old new → ClearsMade names state instruction (ended outcome at) old new → reply ≡ reply_of state instruction (ended outcome at)
+    pub answers_free : (after : Session) (outcome : Outcome) (at : ℕ) (reply : Answer) (new : Scene) → names_of after ≡ names → (outcome ≡ NoUndo → b ≡ true) → FailsOnce names state instruction (ended outcome at) old new → StaysWhole names state instruction (ended outcome at) old new → LeavesFiles names state instruction (ended outcome at) old new → reply ≡ reply_of state instruction (ended outcome at)
         → Fits after new.folder (state_after state instruction (ended outcome at)) all → Works names (Some (work_by b)) (IsUnderWay names under (Some (work_by b))) old new
         → HasLeft names (work_by b) (took_effect outcome) (is_fault outcome) (state_now old) (state_now new) → IsWholeAt names (work_by b) new.folder → Rises names old.folder new.folder
         → (is_fault outcome ≡ true → HasRisen old.folder_faults new.folder_faults) → Answers state syncs instruction before after (mark outcome at) reply old new
-    answers_free after outcome at reply new names_after both calls whole_on cleared replied now works wrote whole rises cause =
+    answers_free after outcome at reply new names_after both calls whole_on files replied now works wrote whole rises cause =
         assemble state syncs instruction before old goes_on s.fits after (mark outcome at) true reply new (Some (sync_in state true)) (Some (work_by b)) (no_read instruction.parsed is)
-        (λ none. (λ i. ((is i && true) && not (free i)) && (flag ∙ both none) i)) calls whole_on cleared sync_is
+        (λ none. (λ i. ((is i && true) && not (free i)) && (flag ∙ both none) i)) calls whole_on files sync_is
         ((λ i. cond ((is i && true) && not (free i)) (Some (write_work state old.folder)) (undo_work state old.folder instruction.parsed)) ∙ (λ i. Some (work_by (flag i)))) replied now
         (record {
           found = refl;
@@ -396,9 +415,13 @@ module _ (state : SessionState) (syncs : List Sync) (instruction : Instruction) 
         (once_after names state instruction (ended outcome at) old mid new s.quiet (once_unwritten names state instruction (ended outcome at) mid new unwritten idle.last
         (λ here. elim (calm here) [ inl looked ↦ looked.0 | inr none ↦ idle.none none ])))
         (whole_unbegun names state instruction (ended outcome at) old new (λ i. (is i && true) && not (taken i)))
-        (clears_none names state instruction (ended outcome at) old new
-        (cleared_then old.folder mid.folder new.folder (cleared_synced names are old.folder mid.folder same) (cleared_same mid.folder new.folder idle.looks.now))
-        (moved_then names are old mid new sync_moved (moved_looks names are mid new idle.looks))) sync_is
+        (record {
+          cleared = clears_none names state instruction (ended outcome at) old new
+              (cleared_then old.folder mid.folder new.folder (cleared_synced names are old.folder mid.folder same) (cleared_same mid.folder new.folder idle.looks.now))
+              (moved_then names are old mid new sync_moved (moved_looks names are mid new idle.looks));
+          modes = modes_by after (Err why) new second wrote;
+          mode = λ written. absurd (true≢false (sym written ∙ unwritten));
+        }) sync_is
         ((λ i. cond ((is i && true) && not (taken i)) (Some (write_work state old.folder)) (undo_work state old.folder instruction.parsed)) ∙ no_undo state old.folder instruction.parsed is) replied now
         (looked_synced before after state syncs (state_after state instruction (ended outcome at)) (took_effect outcome) (is_fault outcome) (reply_of state instruction (ended outcome at)).bytes old mid new s.fits between s.names names_after
         s.frame s.runs s.rises s.synced idle.looks.now second idle.looks cause now)
@@ -412,8 +435,12 @@ module _ (state : SessionState) (syncs : List Sync) (instruction : Instruction) 
         answers_free free b refl after outcome at reply new names_after (λ unstored. absurd (stored unstored))
         (once_after names state instruction (ended outcome at) old mid new s.quiet (once_free free outcome calm none))
         (stays_whole after (Err why) new second wrote outcome at (λ _. none)) (record {
-          left = but_refused names state instruction old.folder outcome none old.folder new.folder (but_by after (Err why) new second wrote) (cleared_calm outcome calm);
-          moved = moved_by after (Err why) new second wrote;
+          cleared = record {
+            left = but_refused names state instruction old.folder outcome none old.folder new.folder (but_by after (Err why) new second wrote) (cleared_calm outcome calm);
+            moved = moved_by after (Err why) new second wrote;
+          };
+          modes = modes_by after (Err why) new second wrote;
+          mode = λ written. absurd (true≢false (sym written ∙ unwritten));
         }) replied
         (stays after new.folder outcome at unwritten wrote.fits)
         (works_runs names (Some (work_by b)) (IsUnderWay names under (Some (work_by b))) AtMoment old new (written_frame after (Err why) new second wrote) (lead b) runs)
@@ -483,7 +510,11 @@ module _ (state : SessionState) (syncs : List Sync) (instruction : Instruction) 
           refused = λ unwritten. absurd (true≢false (sym (written free) ∙ unwritten));
           last = λ unwritten. absurd (true≢false (sym (written free) ∙ unwritten));
           none = λ unwritten. absurd (true≢false (sym (written free) ∙ unwritten));
-        })) (stays_whole after (Ok size) new second wrote Done at (λ failed. absurd (true≢false (sym failed)))) (clears_none names state instruction (ended Done at) old new (cleared_by after (Ok size) new second wrote (never_failed size)) (moved_by after (Ok size) new second wrote))
+        })) (stays_whole after (Ok size) new second wrote Done at (λ failed. absurd (true≢false (sym failed)))) (record {
+          cleared = clears_none names state instruction (ended Done at) old new (cleared_by after (Ok size) new second wrote (never_failed size)) (moved_by after (Ok size) new second wrote);
+          modes = modes_by after (Ok size) new second wrote;
+          mode = λ took. mode_by size after new second wrote;
+        })
         (reply_to ∙ line_is free Done size (bytes_left after (Ok size) new second wrote).0 ∙ replied_done at)
         (fits_by after new.folder Done at true (written free) wrote.fits)
         (works_runs names (Some (EditedFile write)) (IsUnderWay names under (Some (EditedFile write))) AtMoment old new (written_frame after (Ok size) new second wrote) (lead false) runs)

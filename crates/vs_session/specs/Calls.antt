@@ -3,6 +3,7 @@ use Rattle.std.specs.Prelude.{◌≡◌, ◌≤◌, ◌+◌, ◌∷◌, ℕ, Boo
 use Rattle.vs_faults.specs.Faults.{HasCause}
 use Rattle.vs_host.specs.Disk.{Disk}
 use Rattle.vs_host.specs.World.{Tells, Scene, ChangesFolder, ReadsFolder}
+use Rattle.vs_disk.specs.Modes.{MakesLike, MakesPrivate}
 use Rattle.vs_disk.specs.Runs.{FailsLast, Looks, Runs, NoneFails}
 use Rattle.vs_backup.specs.Desks.{StopsAtFault}
 use Rattle.vs_pair.specs.Pair.{Rises}
@@ -91,7 +92,8 @@ pub record GoesOnSyncing (Failed : Type 0) (before after : Session) (old new : S
 
 -- What the end of a session leaves, done or failed. The last sync steps from the syncs before to itself, and some session with these
 -- names fits the folder after it; a quit leaves what the syncs allow, and no swap file where it is done. Under a name under which files are
--- made it leaves none, and at no moment one under those for the swap files. No call but the last one failed.
+-- made it leaves none, and at no moment one under those for the swap files. A file that it makes is for its owner alone. No call but the last one
+-- failed.
 pub record Finishes (tells : Tells) (session : Session) (old new : Scene) (how : End) (done : Bool) : Type 0 where
   pub sync : how ≡ end.Sync → IsTrue tells.folder → (state : SessionState) (syncs : List Sync) → Fits session old.folder state syncs
       → Stepped (names_of session) syncs (last_turn (sync_in state done)) old new
@@ -103,6 +105,7 @@ pub record Finishes (tells : Tells) (session : Session) (old new : Scene) (how :
   pub gone : done ≡ true → how ≡ end.Quit → IsTrue tells.folder → IsFresh (names_of session) new.folder
   pub cleared : IsTrue tells.folder → LeavesNoneMade old.folder new.folder
   pub moved : IsTrue tells.folder → StaysMoved (names_of session) old new
+  pub modes : MakesPrivate tells old new
   pub last : IsTrue tells.folder → FailsLast old new
   pub none : done ≡ true → NoneFails tells old new
   pub frame : ChangesFolder old new
@@ -110,11 +113,13 @@ pub record Finishes (tells : Tells) (session : Session) (old new : Scene) (how :
 
 -- These bytes were stored as the undo file of the session, as far as the calls went: where they are the undo file of a text and a
 -- history, a stop leaves what was there before or them whole. No call was made but those of the storing, none but the last one failed,
--- and none unless that is answered. The session fits the folder in each state that it fitted it in before.
+-- and none unless that is answered. A file that was made is for its owner alone, or has a mode of the edited file. The session fits the
+-- folder in each state that it fitted it in before.
 pub record StoresBytes (tells : Tells) (Failed : Type 0) (session : Session) (bytes : List ℕ) (old new : Scene) : Type 0 where
   pub runs : IsTrue tells.folder → (text : Text) (history : History) → IsUndoOf text history bytes → Runs (StoresUndo (names_of session) text history) old new
   pub fits : KeepsState tells session session old.folder new.folder
   pub calls : IsTrue tells.folder → StoresBy (names_of session).undo_new (names_of session).undo old new
+  pub modes : MakesLike tells (names_of session).file old new
   pub stops : StopsAtFault tells Failed old new
   pub frame : ChangesFolder old new
   pub cause : HasCause old.folder_faults new.folder_faults Failed

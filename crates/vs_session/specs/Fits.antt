@@ -23,6 +23,7 @@ use Rattle.vs_session.specs.Wholeness.{StaysWhole}
 use Rattle.vs_session.specs.Standing.{FitsState}
 use Rattle.vs_session.specs.Summary.{acknowledged_in}
 use Rattle.vs_session.specs.Made.{ClearsMade}
+use Rattle.vs_session.specs.Modes.{KeepsMode, KeepsReaders}
 use Rattle.vs_session.specs.Opened.{Opened, document_of_file}
 
 -- The session is in this state, and the folder has the swap files that these syncs, the newest first, made.
@@ -90,7 +91,8 @@ pub record SameFile (old new : Session) : Type 0 where
 -- ---- one step
 
 -- The session answered a command: the reply, the state and the syncs are those of the state before, and at each moment what may be
--- recovered is recovered. Under a name under which files are made it leaves one only where it ended so that it may.
+-- recovered is recovered. Under a name under which files are made it leaves one only where it ended so that it may. Who may read what it
+-- makes, and what it wrote, is kept.
 pub record Answers (state : SessionState) (syncs : List Sync) (instruction : Instruction) (before after : Session) (mark : Mark) (reply : Answer)
     (old new : Scene) : Type 0 where
   pub not_quit : accepts_quit state instruction ≡ false
@@ -103,6 +105,8 @@ pub record Answers (state : SessionState) (syncs : List Sync) (instruction : Ins
   pub calls : FailsOnce (names_of before) state instruction ended old new
   pub whole : StaysWhole (names_of before) state instruction ended old new
   pub cleared : ClearsMade (names_of before) state instruction ended old new
+  pub modes : KeepsReaders (names_of before).file instruction old new
+  pub mode : KeepsMode (names_of before).file state instruction ended old new
 
 -- a command was answered, or an accepted `q` or `q!` changed nothing
 abbrev pub IsStep : Step → SessionState → List Sync → Instruction → Session → Session → Scene → Scene → Type 0

@@ -6,6 +6,7 @@ use Rattle.vs_host.specs.World.{Tells, Scene}
 use Rattle.vs_disk.specs.Faults.{earlier_faults}
 use Rattle.vs_tree.specs.declared.tree.LineTree.{LineTree}
 use Rattle.vs_pair.specs.Lent.{IsReady, KeepsFiles}
+use Rattle.vs_pair.specs.Pair.{shown_in}
 use Rattle.vs_pair.specs.declared.pair.SwapPair.{SwapPair}
 use Rattle.vs_undo.specs.History.{FitsCount}
 use Rattle.vs_undo.specs.declared.parts.Parts.{Parts}
@@ -22,12 +23,13 @@ use Rattle.vs_session.specs.Standing.{FitsState, Stands}
 pub record IsLent (tells : Tells) (pair : SwapPair) (tree : LineTree) (disk : Disk) : Type 0 where
   pub bounded : IsBounded tree
   pub ready : IsTrue tells.folder → IsReady pair disk
-  pub paged : IsTrue tells.folder → (text : Text) × IsPaged pair.pages tree text
+  pub paged : IsTrue tells.folder → (text : Text) × IsPaged (shown_in pair disk) tree text
 
 -- The pages have the text that they had, and the folder was only looked at. Its faults have risen where a call failed, the last
 -- one.
 pub record KeepsLent (tells : Tells) (Failed : Type 0) (pair_old pair_new : SwapPair) (tree_old tree_new : LineTree) (old new : Scene) : Type 0 where
-  pub paged : IsTrue tells.folder → (text : Text) → IsPaged pair_old.pages tree_old text → IsPaged pair_new.pages tree_new text
+  pub paged : IsTrue tells.folder → (text : Text) → IsPaged (shown_in pair_old old.folder) tree_old text
+      → IsPaged (shown_in pair_new new.folder) tree_new text
   pub bounded : IsBounded tree_new
   pub lines : tree_new.present.lines ≡ tree_old.present.lines
   pub keeps : KeepsFiles tells pair_old pair_new old new
@@ -38,7 +40,7 @@ pub record IsLentWithUndo (tells : Tells) (pair : SwapPair) (tree : LineTree) (u
   pub bounded : IsBounded tree
   pub counts : FitsCount undo (max 1 tree.present.lines)
   pub ready : IsTrue tells.folder → IsReady pair disk
-  pub stands : IsTrue tells.folder → (state : State) × Stands pair.pages tree undo state
+  pub stands : IsTrue tells.folder → (state : State) × Stands pair disk tree undo state
 
 -- The numbers of the tree are within their bounds, the undo tree fits the number of lines, and the folder was only looked at. Its
 -- faults have risen where a call failed, the last one.

@@ -6,6 +6,7 @@ pub mod Pieces
 pub mod Standing
 pub mod Summary
 pub mod Made
+pub mod Modes
 pub mod Fits
 pub mod Writes
 pub mod Stores

@@ -1,6 +1,6 @@
 -- The write of a session's file, after the sync that its command begins.
-use Rattle.std.specs.Prelude.{◌≡◌, ◌∷◌, ℕ, true, List, Result, Ok, Err}
-use Rattle.vs_host.specs.Disk.{IsFolder}
+use Rattle.std.specs.Prelude.{◌≡◌, ◌∷◌, ℕ, true, List, Result, Ok, Err, IsSome}
+use Rattle.vs_host.specs.Disk.{IsFolder, mode_in}
 use Rattle.vs_host.specs.World.{Scene, ChangesFolder}
 use Rattle.vs_disk.specs.Runs.{Quiet, Runs}
 use Rattle.vs_pair.specs.Pair.{Rises}
@@ -20,6 +20,7 @@ use Rattle.vs_desk.specs.Still.{KeepsLeft}
 use Rattle.vs_desk.specs.Writes.{KeepsSwap, WritesFile}
 use Rattle.vs_session.specs.declared.session.Session.{Session}
 use Rattle.vs_session.specs.Session.{SessionState, after_sync, sync_in, written_bytes, written_state}
+use Rattle.vs_session.specs.Modes.{OnlyLike, OnlyPrivate}
 use Rattle.vs_session.specs.Fits.{Fits, names_of}
 
 -- how a write ended that was refused, and its reply
@@ -51,6 +52,7 @@ pub record Wrote (state : SessionState) (syncs : List Sync) (before after : Sess
   pub folder : IsFolder old.folder
   pub others : SparesOthers (WorksOn state.options.write (names_of before).file old.folder) old new
   pub left : Runs (KeepsLeft (WorksOn state.options.write (names_of before).file old.folder)) old new
+  pub modes : IsSome (mode_in old.folder (names_of before).file) → OnlyLike (names_of before).file old new
   pub above : NoneAbove old new
   pub calls : FailsNoEarlier (names_of before).file (written_bytes state) old new result
   pub fits : Fits after new.folder (state_to state result) syncs
@@ -62,6 +64,7 @@ pub record HasSynced (state : SessionState) (syncs : List Sync) (before after : 
   pub frame : ChangesFolder old new
   pub runs : Runs (Syncing before.text before.options.write.format) old new
   pub quiet : Quiet old new
+  pub modes : OnlyPrivate old new
   pub rises : Rises (names_of before) old.folder new.folder
   pub names : names_of after ≡ names_of before
   pub synced : Fits after new.folder (after_sync state true) (sync_in state true ∷ syncs)

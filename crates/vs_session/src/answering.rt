@@ -33,21 +33,21 @@ fn answer_in<F: Folder>(
     requires form { IsFormed request.now }
     requires some { 1 ≤ keep.levels }
     ensures reply { IfOk result (λ answered. IsTrue F.tells.folder → (state : State) (instruction : Instruction)
-        → Stands pair.old.pages tree.old history.old state → cursor ≡ state.cursor → IsRequest request.now instruction
+        → Stands pair.old (F.scene host.old).folder tree.old history.old state → cursor ≡ state.cursor → IsRequest request.now instruction
         → answered.reply ≡ done_reply state (meaning_at state instruction)) }
     ensures state { IfOk result (λ answered. IsTrue F.tells.folder → (state : State) (instruction : Instruction)
-        → Stands pair.old.pages tree.old history.old state → cursor ≡ state.cursor → IsRequest request.now instruction
-        → let after = done_state state keep (meaning_at state instruction) in Stands pair.new.pages tree.new history.new after
+        → Stands pair.old (F.scene host.old).folder tree.old history.old state → cursor ≡ state.cursor → IsRequest request.now instruction
+        → let after = done_state state keep (meaning_at state instruction) in Stands pair.new (F.scene host.new).folder tree.new history.new after
         × (answered.cursor ≡ after.cursor)) }
     ensures oldest { IfOk result (λ answered. IsTrue F.tells.folder → (state : State) (instruction : Instruction)
-        → Stands pair.old.pages tree.old history.old state → cursor ≡ state.cursor → IsRequest request.now instruction
+        → Stands pair.old (F.scene host.old).folder tree.old history.old state → cursor ≡ state.cursor → IsRequest request.now instruction
         → answered.oldest ≡ done_oldest state keep (meaning_at state instruction)) }
     ensures works { IfOk result (λ answered. IsTrue F.tells.folder → (state : State) (instruction : Instruction)
-        → Stands pair.old.pages tree.old history.old state → cursor ≡ state.cursor → IsRequest request.now instruction
+        → Stands pair.old (F.scene host.old).folder tree.old history.old state → cursor ≡ state.cursor → IsRequest request.now instruction
         → WorksAs state (meaning_at state instruction) (most_in tree.old) (work_in pair.old.pages) (work_in pair.new.pages)) }
     ensures idle { OnErr result (SameWork F.tells pair.old.pages pair.new.pages) }
-    ensures err { OnErr result (IsTrue F.tells.folder → (state : State) → Stands pair.old.pages tree.old history.old state
-        → Stands pair.new.pages tree.new history.new state) }
+    ensures err { OnErr result (IsTrue F.tells.folder → (state : State) → Stands pair.old (F.scene host.old).folder tree.old history.old state
+        → Stands pair.new (F.scene host.new).folder tree.new history.new state) }
     ensures kept { KeepsLentWithUndo F.tells (IsErrOf result StoreErr.Failed) pair.old pair.new tree.new history.new (F.scene host.old) (F.scene host.new) }
 {
     let mut store = MergedStore {

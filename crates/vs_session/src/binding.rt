@@ -7,6 +7,7 @@ ghost use Rattle.vs_ubind.specs.Binding.{IsRefused};
 ghost use Rattle.vs_ubind.specs.Bound.{IsBound};
 ghost use Rattle.vs_safety.specs.Texts.{Sync, Text};
 ghost use Rattle.vs_paged.specs.Fits as paged;
+ghost use Rattle.vs_pair.specs.Pair.{shown_in};
 ghost use Rattle.vs_paged.specs.Pages.{IsPaged};
 ghost use Rattle.vs_session.specs.Lent.{IsLent, KeepsLent, KeepsText};
 ghost use Rattle.vs_session.specs.Work.{SameWork};
@@ -31,9 +32,9 @@ fn bind_in<F: Folder>(
 ) -> Result<UndoTree, BindErr>
     requires rules { KeepsRules (history_of contents.now) }
     requires lent { IsLent F.tells pair.old tree.old (F.scene host.old).folder }
-    ensures bound { IfOk result (λ undo. IsTrue F.tells.folder → (text : Text) → IsPaged pair.old.pages tree.old text
+    ensures bound { IfOk result (λ undo. IsTrue F.tells.folder → (text : Text) → IsPaged (shown_in pair.old (F.scene host.old).folder) tree.old text
         → (history : History) × IsBound (history_of contents.now) text history × IsHistory undo text history) }
-    ensures refused { IfErr result (λ error. IsTrue F.tells.folder → (text : Text) → IsPaged pair.old.pages tree.old text
+    ensures refused { IfErr result (λ error. IsTrue F.tells.folder → (text : Text) → IsPaged (shown_in pair.old (F.scene host.old).folder) tree.old text
         → IsRefused (history_of contents.now) text error) }
     ensures counts { IfOk result (λ undo. FitsCount undo (max 1 tree.new.present.lines)) }
     ensures kept { KeepsLent F.tells (IsErrOf result BindErr.Failed) pair.old pair.new tree.old tree.new (F.scene host.old) (F.scene host.new) }

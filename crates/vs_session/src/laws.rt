@@ -3,6 +3,7 @@ ghost use Rattle.std.specs.Prelude.{◌≡◌, ◌+◌, ◌*◌, ℕ, true};
 ghost use Rattle.vs_host.specs.Disk.{Disk};
 ghost use Rattle.vs_host.specs.World.{Scene, Tells};
 ghost use Rattle.vs_disk.specs.Runs.{CallsAtMost};
+ghost use Rattle.vs_pages.specs.Memory.{state_of};
 ghost use Rattle.vs_pages.specs.declared.memory.MemPages.{MemPages};
 ghost use Rattle.vs_pair.specs.Stale.{IsBehind, IsCounted};
 ghost use Rattle.vs_pair.specs.declared.pair.SwapPair.{SwapPair};
@@ -20,7 +21,7 @@ ghost use Rattle.vs_session.specs.Work.{work_in};
 /// `40 * k + 8` calls.
 pub fn falling_behind()
     ensures synced { (before after : SwapPair) → IsCounted after.pages → TurnsFiles true before after → IsBehind after.pages after.files.newer_has 0 }
-    ensures unworked { (old new : MemPages) (written : Written) (most : ℕ) → IsIdle old → IsIdle new → work_in new ≡ work_in old
+    ensures unworked { (old new : MemPages) (written : Written) (most : ℕ) → IsIdle (state_of old) → IsIdle (state_of new) → work_in new ≡ work_in old
         → IsBehind old written most → IsBehind new written most }
     ensures line { (tells : Tells) (request : Request) (outcome : Outcome) (before after : Session) (was now : Disk) (written : Written) (most : ℕ)
         → ChangesLine tells request outcome before after was now

@@ -3,6 +3,7 @@ ghost use Rattle.std.specs.Prelude.{◌≡◌, ◌⊎◌, ◌∷◌, [], ℕ, Li
 ghost use Rattle.vs_faults.specs.Faults.{HasCause, IsQuiet};
 ghost use Rattle.vs_host.specs.Names.{is_allowed, names_of_file};
 ghost use Rattle.vs_host.specs.World.{content_of};
+ghost use Rattle.vs_disk.specs.Modes.{MakesPrivate};
 ghost use Rattle.vs_disk.specs.Runs.{NoneFails};
 ghost use Rattle.vs_pair.specs.Acts.{Acts};
 ghost use Rattle.vs_pair.specs.Steps.{BothMoved, IsFresh};
@@ -123,6 +124,7 @@ impl Session {
         ensures over { IsTrue (H.tells).folder →
             IfSome (content_of (H.scene host.old) name.now) (λ bytes. ¬ (IsWithinLimits ((document_of bytes).text)) → IsErr result) }
         ensures acts { Acts H.tells (Opens name.now) (H.scene host.old) (H.scene host.new) }
+        ensures modes { MakesPrivate H.tells (H.scene host.old) (H.scene host.new) }
         ensures looks { IsErr result → ¬ (IsErrOf result OpenErr.Failed) → OnlyLooks H.tells (H.scene host.old) (H.scene host.new) }
         ensures none { OnOk result (NoneFails H.tells (H.scene host.old) (H.scene host.new)) }
         ensures cause { HasCause (H.scene host.old).folder_faults (H.scene host.new).folder_faults (IsErrOf result OpenErr.Failed) }

@@ -1,5 +1,6 @@
 // The storing of a session's undo file.
 ghost use Rattle.std.specs.Prelude.{◌≡◌, List, true, IsErr, IsErrOf, IsTrue, OnOk};
+ghost use Rattle.vs_disk.specs.Modes.{MakesLike};
 ghost use Rattle.vs_disk.specs.Runs.{Runs};
 ghost use Rattle.vs_backup.specs.Desks.{StopsAtFault};
 ghost use Rattle.vs_excmd.specs.Request.{Instruction};
@@ -34,6 +35,7 @@ impl Session {
         requires usable { IsUsable F.tells self.old (F.scene host.old).folder }
         ensures runs { IsTrue F.tells.folder → (state : SessionState) (syncs : List Sync) → Fits self.old (F.scene host.old).folder state syncs
             → Runs (StoresUndo (names_of self.old) state.machine.text state.machine.history) (F.scene host.old) (F.scene host.new) }
+        ensures modes { MakesLike F.tells (names_of self.old).file (F.scene host.old) (F.scene host.new) }
         ensures stored { OnOk result (IsTrue F.tells.folder → (state : SessionState) (syncs : List Sync) →
             Fits self.old (F.scene host.old).folder state syncs
             → HasUndo (names_of self.old) state.machine.text state.machine.history (F.scene host.new).folder) }

@@ -6,6 +6,7 @@ ghost use Rattle.vs_disk.specs.Runs.{FailsLast, Looks};
 ghost use Rattle.vs_safety.specs.Texts.{Sync, Text};
 ghost use Rattle.vs_ubind.specs.Digest.{digest_of};
 ghost use Rattle.vs_paged.specs.Fits as paged;
+ghost use Rattle.vs_pair.specs.Pair.{shown_in};
 ghost use Rattle.vs_paged.specs.Pages.{IsPaged};
 ghost use Rattle.vs_session.specs.Calls.{FitsFolder, KeepsState};
 ghost use Rattle.vs_session.specs.Fits.{Fits, FitsUndo, SameFile, generation_of};
@@ -44,7 +45,8 @@ fn digest_in<F: Folder>(
     host: &mut F,
 ) -> Result<[u8; 32], StoreErr>
     requires lent { IsLent F.tells pair.old tree.old (F.scene host.old).folder }
-    ensures digest { IfOk result (λ digest. IsTrue F.tells.folder → (text : Text) → IsPaged pair.old.pages tree.old text → digest ≡ digest_of text) }
+    ensures digest { IfOk result (λ digest. IsTrue F.tells.folder → (text : Text) → IsPaged (shown_in pair.old (F.scene host.old).folder) tree.old text
+        → digest ≡ digest_of text) }
     ensures kept { KeepsLent F.tells (IsErrOf result StoreErr.Failed) pair.old pair.new tree.old tree.new (F.scene host.old) (F.scene host.new) }
 {
     let mut store = MergedStore {

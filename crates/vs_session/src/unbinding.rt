@@ -36,11 +36,11 @@ fn unbind_in<F: Folder>(
     save_next: bool,
 ) -> Result<FileHistory, StoreErr>
     requires lent { IsLentWithUndo F.tells pair.old tree.old history.now (F.scene host.old).folder }
-    ensures made { IfOk result (λ contents. IsTrue F.tells.folder → (state : State) → Stands pair.old.pages tree.old history.now state
+    ensures made { IfOk result (λ contents. IsTrue F.tells.folder → (state : State) → Stands pair.old (F.scene host.old).folder tree.old history.now state
         → IsDataOf (history_of contents) state.text (history_next save_next state.history)) }
     ensures formed { IfOk result (λ contents. IsWellFormed (history_of contents)) }
-    ensures stands { IsTrue F.tells.folder → (state : State) → Stands pair.old.pages tree.old history.now state
-        → Stands pair.new.pages tree.new history.now state }
+    ensures stands { IsTrue F.tells.folder → (state : State) → Stands pair.old (F.scene host.old).folder tree.old history.now state
+        → Stands pair.new (F.scene host.new).folder tree.new history.now state }
     ensures kept { KeepsLentWithUndo F.tells (IsErrOf result StoreErr.Failed) pair.old pair.new tree.new history.now (F.scene host.old) (F.scene host.new) }
     ensures works { SameWork F.tells pair.old.pages pair.new.pages }
 {

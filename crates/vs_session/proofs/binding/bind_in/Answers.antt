@@ -1,4 +1,5 @@
 use Rattle.std.proofs.Common.{sym, ap, subst, max, ◌∙◌}
+use Rattle.vs_pair.specs.Pair.{shown_in}
 use Rattle.vs_tree.specs.declared.tree.LineTree.{LineTree}
 use Rattle.vs_undo.specs.History.{FitsCount}
 use Rattle.vs_paged.specs.Pages.{IsBounded}
@@ -34,10 +35,10 @@ returns-clause-kept g c =
     let stays = kept.stays in
     record {
       paged = λ told text paged.
-          paged_stays g.F.World.tells.folder _ c.bind.new.text.pages.pair.now c.args.pair.now.pages _ c.bind.new.text.tree.now c.args.tree.now text (c.pair-1.given.1 (sym stays.1.0)) (c.tree-1.given.1 (sym stays.0))
+          paged_stays g.F.World.tells.folder _ c.bind.new.text.pages.pair.now _ _ (shown_in c.args.pair.now (g.F.World.scene c.args.host.now).folder) _ c.bind.new.text.tree.now c.args.tree.now text (c.pair-1.given.1 (sym stays.1.0)) (ap (λ (h : g.row.F.Denot). (g.F.World.scene h).folder) (c.host-1.given.1 (sym stays.1.1))) (c.tree-1.given.1 (sym stays.0))
           c.bind.ensures.present kept.committed kept.valid.3 kept.valid.4 told paged;
       bounded = subst (λ (t : LineTree). IsBounded t) (sym (c.tree-1.given.1 (sym stays.0)))
-          (bounded_stays g.F.World.tells.folder c.args.pair.now.pages c.bind.new.text.pages.pair.now.pages c.args.tree.now c.bind.new.text.tree.now kept.valid.1 c.bind.ensures.present kept.committed c.requires.lent.bounded);
+          (bounded_stays g.F.World.tells.folder (shown_in c.args.pair.now (g.F.World.scene c.args.host.now).folder) (shown_in c.bind.new.text.pages.pair.now (g.F.World.scene c.bind.new.text.pages.host.now).folder) c.args.tree.now c.bind.new.text.tree.now kept.valid.1 c.bind.ensures.present kept.committed c.requires.lent.bounded);
       lines = ap (λ (t : LineTree). t.present.lines) (c.tree-1.given.1 (sym stays.0)) ∙ c.bind.ensures.present.lines;
       keeps = keeps_back g.F.World.tells c.args.pair.now _ _ (g.F.World.scene c.args.host.now) _ _ (c.pair-1.given.1 (sym stays.1.0)) (ap (λ (h : g.row.F.Denot). g.F.World.scene h) (c.host-1.given.1 (sym stays.1.1))) stays.1.2;
       cause = cause_back g.F.World.tells (g.F.World.scene c.args.host.now).folder_faults _ _ (ap (λ (h : g.row.F.Denot). g.F.World.scene h) (c.host-1.given.1 (sym stays.1.1))) c.bind.ensures.cause;

@@ -1,4 +1,5 @@
 use Rattle.std.proofs.Common.{sym, ap, subst, ◌∙◌}
+use Rattle.vs_pair.specs.Pair.{shown_in}
 use Rattle.vs_tree.specs.declared.tree.LineTree.{LineTree}
 use Rattle.vs_paged.specs.Pages.{IsBounded}
 use Rattle.vs_session.proofs.StoreLemmas.{if_ok_as, present_fits, committed_fits, present_filled, committed_filled, told_text, keeps_back, cause_back}
@@ -18,10 +19,10 @@ returns-clause-kept g c =
     let stays = kept.stays in
     record {
       paged = λ told text paged.
-          paged_stays g.F.World.tells.folder _ c.digest.new.text.pages.pair.now c.args.pair.now.pages _ c.digest.new.text.tree.now c.args.tree.now text (c.pair-1.given.1 (sym stays.1.0)) (c.tree-1.given.1 (sym stays.0))
+          paged_stays g.F.World.tells.folder _ c.digest.new.text.pages.pair.now _ _ (shown_in c.args.pair.now (g.F.World.scene c.args.host.now).folder) _ c.digest.new.text.tree.now c.args.tree.now text (c.pair-1.given.1 (sym stays.1.0)) (ap (λ (h : g.row.F.Denot). (g.F.World.scene h).folder) (c.host-1.given.1 (sym stays.1.1))) (c.tree-1.given.1 (sym stays.0))
           kept.present kept.committed kept.valid.3 kept.valid.4 told paged;
       bounded = subst (λ (t : LineTree). IsBounded t) (sym (c.tree-1.given.1 (sym stays.0)))
-          (bounded_stays g.F.World.tells.folder c.args.pair.now.pages c.digest.new.text.pages.pair.now.pages c.args.tree.now c.digest.new.text.tree.now kept.valid.1 kept.present kept.committed c.requires.lent.bounded);
+          (bounded_stays g.F.World.tells.folder (shown_in c.args.pair.now (g.F.World.scene c.args.host.now).folder) (shown_in c.digest.new.text.pages.pair.now (g.F.World.scene c.digest.new.text.pages.host.now).folder) c.args.tree.now c.digest.new.text.tree.now kept.valid.1 kept.present kept.committed c.requires.lent.bounded);
       lines = ap (λ (t : LineTree). t.present.lines) (c.tree-1.given.1 (sym stays.0)) ∙ kept.present.lines;
       keeps = keeps_back g.F.World.tells c.args.pair.now _ _ (g.F.World.scene c.args.host.now) _ _ (c.pair-1.given.1 (sym stays.1.0)) (ap (λ (h : g.row.F.Denot). g.F.World.scene h) (c.host-1.given.1 (sym stays.1.1))) stays.1.2;
       cause = cause_back g.F.World.tells (g.F.World.scene c.args.host.now).folder_faults _ _ (ap (λ (h : g.row.F.Denot). g.F.World.scene h) (c.host-1.given.1 (sym stays.1.1))) c.digest.ensures.cause;

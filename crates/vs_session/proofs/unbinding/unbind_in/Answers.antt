@@ -1,4 +1,5 @@
 use Rattle.std.proofs.Common.{sym, ap, subst, max}
+use Rattle.vs_pair.specs.Pair.{shown_in}
 use Rattle.vs_tree.specs.declared.tree.LineTree.{LineTree}
 use Rattle.vs_undo.specs.History.{FitsCount}
 use Rattle.vs_paged.specs.Pages.{IsBounded}
@@ -8,12 +9,12 @@ use Rattle.vs_session.proofs.unbinding.unbind_in.Goals as goal
 
 pub unbind-requires : goal.unbind-requires
 unbind-requires g c =
-    let paged = stands_paged g.F.World.tells.folder c.args.pair.now.pages c.args.tree.now c.args.history.now c.requires.lent.stands in
+    let paged = stands_paged g.F.World.tells.folder c.args.pair.now (g.F.World.scene c.args.host.now).folder c.args.tree.now c.args.history.now c.requires.lent.stands in
     record {
       valid = (c.requires.lent.ready, present_fits _ _ _ c.requires.lent.bounded paged, committed_fits _ _ _ c.requires.lent.bounded paged, present_filled _ _ _ paged, committed_filled _ _ _ paged);
       committed = same_text _ _ _ c.requires.lent.bounded paged;
       counts = c.requires.lent.counts;
-      texts = stands_undo g.F.World.tells.folder c.args.pair.now.pages c.args.tree.now c.args.history.now c.requires.lent.stands;
+      texts = stands_undo g.F.World.tells.folder c.args.pair.now (g.F.World.scene c.args.host.now).folder c.args.tree.now c.args.history.now c.requires.lent.stands;
     }
 
 pub returns-clause-made : goal.returns-clause-made
@@ -23,18 +24,18 @@ returns-clause-made g c =
 pub returns-clause-stands : goal.returns-clause-stands
 returns-clause-stands g c told state stands =
     let kept = c.unbind.ensures.kept in
-    let paged = stands_paged g.F.World.tells.folder c.args.pair.now.pages c.args.tree.now c.args.history.now c.requires.lent.stands in
-    stands_back _ _ _ _ _ _ (c.pair-1.given.1 (sym kept.stays.1.0)) (c.tree-1.given.1 (sym kept.stays.0))
-    (record { text = paged_text _ _ _ _ (kept_same g.F.World.tells.folder c.args.pair.now.pages c.unbind.new.text.pages.pair.now.pages c.args.tree.now c.unbind.new.text.tree.now c.requires.lent.bounded paged kept.present kept.committed) kept.valid.3 kept.valid.4 (kept.present.text state.text (told_text _ _ _ _ told stands.text)); history = stands.history })
+    let paged = stands_paged g.F.World.tells.folder c.args.pair.now (g.F.World.scene c.args.host.now).folder c.args.tree.now c.args.history.now c.requires.lent.stands in
+    stands_back _ _ _ _ _ _ _ _ (c.pair-1.given.1 (sym kept.stays.1.0)) (ap (λ (h : g.row.F.Denot). (g.F.World.scene h).folder) (c.host-1.given.1 (sym kept.stays.1.1))) (c.tree-1.given.1 (sym kept.stays.0))
+    (record { text = paged_text _ _ _ _ (kept_same g.F.World.tells.folder (shown_in c.args.pair.now (g.F.World.scene c.args.host.now).folder) (shown_in c.unbind.new.text.pages.pair.now (g.F.World.scene c.unbind.new.text.pages.host.now).folder) c.args.tree.now c.unbind.new.text.tree.now c.requires.lent.bounded paged kept.present kept.committed) kept.valid.3 kept.valid.4 (kept.present.text state.text (told_text _ _ _ _ told stands.text)); history = stands.history })
 
 pub returns-clause-kept : goal.returns-clause-kept
 returns-clause-kept g c =
     let kept = c.unbind.ensures.kept in
     let stays = kept.stays in
-    let paged = stands_paged g.F.World.tells.folder c.args.pair.now.pages c.args.tree.now c.args.history.now c.requires.lent.stands in
+    let paged = stands_paged g.F.World.tells.folder c.args.pair.now (g.F.World.scene c.args.host.now).folder c.args.tree.now c.args.history.now c.requires.lent.stands in
     record {
       bounded = subst (λ (t : LineTree). IsBounded t) (sym (c.tree-1.given.1 (sym stays.0)))
-          (bounded_tree g.F.World.tells.folder c.unbind.new.text.pages.pair.now.pages c.unbind.new.text.tree.now kept.valid.1 (kept_same g.F.World.tells.folder c.args.pair.now.pages c.unbind.new.text.pages.pair.now.pages c.args.tree.now c.unbind.new.text.tree.now c.requires.lent.bounded paged kept.present kept.committed));
+          (bounded_tree g.F.World.tells.folder (shown_in c.unbind.new.text.pages.pair.now (g.F.World.scene c.unbind.new.text.pages.host.now).folder) c.unbind.new.text.tree.now kept.valid.1 (kept_same g.F.World.tells.folder (shown_in c.args.pair.now (g.F.World.scene c.args.host.now).folder) (shown_in c.unbind.new.text.pages.pair.now (g.F.World.scene c.unbind.new.text.pages.host.now).folder) c.args.tree.now c.unbind.new.text.tree.now c.requires.lent.bounded paged kept.present kept.committed));
       counts = subst (λ (t : LineTree). FitsCount c.args.history.now (max 1 t.present.lines)) (sym (c.tree-1.given.1 (sym stays.0))) (subst (λ n. FitsCount c.args.history.now (max 1 n)) (sym kept.present.lines) c.requires.lent.counts);
       keeps = keeps_back g.F.World.tells c.args.pair.now _ _ (g.F.World.scene c.args.host.now) _ _ (c.pair-1.given.1 (sym stays.1.0)) (ap (λ (h : g.row.F.Denot). g.F.World.scene h) (c.host-1.given.1 (sym stays.1.1))) stays.1.2;
       cause = cause_back g.F.World.tells (g.F.World.scene c.args.host.now).folder_faults _ _ (ap (λ (h : g.row.F.Denot). g.F.World.scene h) (c.host-1.given.1 (sym stays.1.1))) c.unbind.ensures.cause;

@@ -27,7 +27,7 @@ returns-in-Ok-clause-step g c told state syncs instruction fits is =
     let synced = c.in-Ok.ensures.ok told state syncs fits in
     answers_synced state syncs instruction c.args.self.now old (quits_is c.args.self.now old.folder state syncs instruction _ false fits is.parsed c.requires.goes_on) fits (sym (ap uses_files is.parsed) ∙ c.requires.plain) g.F.World.tells told c.sync.new.self c.carry_out-outcome.new.self _ _ mid new c.carry_out-outcome.ensures.stored
     (begins_is c.args.self.now old.folder state syncs instruction _ true fits is.parsed c.requires.begins) c.in-Ok.ensures.file.names (c.carry_out-outcome.ensures.kept.file.names ∙ c.in-Ok.ensures.file.names) c.in-Ok.ensures.acts.frame
-    (c.in-Ok.ensures.acts.runs told) (c.in-Ok.ensures.none.quiet told) c.in-Ok.ensures.acts.later (c.in-Ok.ensures.rises told) synced c.carry_out-outcome.ensures.kept.frame (c.carry_out-outcome.ensures.kept.looks told) c.carry_out-outcome.ensures.kept.stops c.carry_out-outcome.ensures.kept.cause
+    (c.in-Ok.ensures.acts.runs told) (c.in-Ok.ensures.acts.modes told) (c.in-Ok.ensures.none.quiet told) c.in-Ok.ensures.acts.later (c.in-Ok.ensures.rises told) synced c.carry_out-outcome.ensures.kept.frame (c.carry_out-outcome.ensures.kept.looks told) c.carry_out-outcome.ensures.kept.stops c.carry_out-outcome.ensures.kept.cause
     (c.carry_out-outcome.ensures.reply told (after_sync state true) (sync_in state true ∷ syncs) instruction synced is) (c.carry_out-outcome.ensures.fits told (after_sync state true) (sync_in state true ∷ syncs) instruction synced is)
 
 pub returns-in-Err-clause-step : goal.returns-in-Err-clause-step
@@ -35,7 +35,7 @@ returns-in-Err-clause-step g c told state syncs instruction fits is =
     let old = g.F.World.scene c.args.host.now in
     let new = g.F.World.scene c.sync.new.host in
     answers_failed state syncs instruction c.args.self.now old (quits_is c.args.self.now old.folder state syncs instruction _ false fits is.parsed c.requires.goes_on) fits c.sync.new.self c.args.at _ new
-    (begins_is c.args.self.now old.folder state syncs instruction _ true fits is.parsed c.requires.begins) c.in-Err.ensures.file.names c.in-Err.ensures.acts.frame (c.in-Err.ensures.acts.runs told) (c.in-Err.ensures.acts.last told)
+    (begins_is c.args.self.now old.folder state syncs instruction _ true fits is.parsed c.requires.begins) c.in-Err.ensures.file.names c.in-Err.ensures.acts.frame (c.in-Err.ensures.acts.runs told) (c.in-Err.ensures.acts.modes told) (c.in-Err.ensures.acts.last told)
     (c.in-Err.ensures.cause.risen refl) c.device_fault.ensures (c.in-Err.ensures.stays told) (c.in-Err.ensures.err told state syncs fits)
 
 pub returns-in-Ok-clause-works : goal.returns-in-Ok-clause-works

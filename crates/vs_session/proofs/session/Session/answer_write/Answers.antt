@@ -22,6 +22,7 @@ returns-in-Ok-clause-step g c told state syncs instruction fits is =
       frame = c.in-Ok.ensures.acts.frame;
       runs = c.in-Ok.ensures.acts.runs told;
       quiet = c.in-Ok.ensures.none.quiet told;
+      modes = c.in-Ok.ensures.acts.modes told;
       rises = c.in-Ok.ensures.rises told;
       names = c.in-Ok.ensures.file.names;
       synced = c.in-Ok.ensures.ok told state syncs fits;
@@ -32,7 +33,7 @@ returns-in-Err-clause-step g c told state syncs instruction fits is =
     let old = g.F.World.scene c.args.host.now in
     let new = g.F.World.scene c.sync.new.host in
     answers_failed state syncs instruction c.args.self.now old (never_quits instruction.parsed _ is) fits c.sync.new.self c.args.at _ new
-    (begins_is state.steps instruction.parsed is) c.in-Err.ensures.file.names c.in-Err.ensures.acts.frame (c.in-Err.ensures.acts.runs told) (c.in-Err.ensures.acts.last told)
+    (begins_is state.steps instruction.parsed is) c.in-Err.ensures.file.names c.in-Err.ensures.acts.frame (c.in-Err.ensures.acts.runs told) (c.in-Err.ensures.acts.modes told) (c.in-Err.ensures.acts.last told)
     (c.in-Err.ensures.cause.risen refl) c.device_fault.ensures (c.in-Err.ensures.stays told) (c.in-Err.ensures.err told state syncs fits)
 
 pub returns-in-Ok-clause-works : goal.returns-in-Ok-clause-works

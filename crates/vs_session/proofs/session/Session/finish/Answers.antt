@@ -16,6 +16,7 @@ returns-in-Sync g c = record {
   gone = λ done how. absurd (cc);
   cleared = λ told. (last_clears c.args.self (g.H.World.scene c.args.host.now) (g.H.World.scene c.sync.new.host) (c.requires.fits told) (c.sync.ensures.acts.runs told)).0;
   moved = λ told. (last_clears c.args.self (g.H.World.scene c.args.host.now) (g.H.World.scene c.sync.new.host) (c.requires.fits told) (c.sync.ensures.acts.runs told)).1;
+  modes = c.sync.ensures.acts.modes;
   last = c.sync.ensures.acts.last;
   none = λ done. when_ok c.sync.result _ done c.sync.ensures.none;
   frame = c.sync.ensures.acts.frame;
@@ -31,6 +32,7 @@ returns-in-Quit g c = record {
   gone = λ done how told. let both = when_ok c.end.result _ done c.end.ensures.gone told in record { no_swp = both.0; no_swo = both.1 };
   cleared = λ told. (end_clears c.args.self (g.H.World.scene c.args.host.now) (g.H.World.scene c.end.new.host) (c.requires.fits told) (c.end.ensures.acts.runs told)).0;
   moved = λ told. (end_clears c.args.self (g.H.World.scene c.args.host.now) (g.H.World.scene c.end.new.host) (c.requires.fits told) (c.end.ensures.acts.runs told)).1;
+  modes = c.end.ensures.acts.modes;
   last = c.end.ensures.acts.last;
   none = λ done. when_ok c.end.result _ done c.end.ensures.none;
   frame = c.end.ensures.acts.frame;

@@ -136,3 +136,18 @@ returns-clause-none g c =
 
 pub returns-in_err-text-clause-over : goal.returns-in_err-text-clause-over
 returns-in_err-text-clause-over g c = λ told. never_over _ _ (c.in_ok-opening.ensures.limits.within told)
+
+pub returns-in_err-kept-clause-modes : goal.returns-in_err-kept-clause-modes
+returns-in_err-kept-clause-modes g c = (returns-in_err-kept-clause-acts g c).modes
+
+pub returns-in_err-history-clause-modes : goal.returns-in_err-history-clause-modes
+returns-in_err-history-clause-modes g c = (returns-in_err-history-clause-acts g c).modes
+
+pub returns-in_err-opening-clause-modes : goal.returns-in_err-opening-clause-modes
+returns-in_err-opening-clause-modes g c = (returns-in_err-opening-clause-acts g c).modes
+
+pub returns-in_err-text-clause-modes : goal.returns-in_err-text-clause-modes
+returns-in_err-text-clause-modes g c = (returns-in_err-text-clause-acts g c).modes
+
+pub returns-clause-modes : goal.returns-clause-modes
+returns-clause-modes g c = (returns-clause-acts g c).modes

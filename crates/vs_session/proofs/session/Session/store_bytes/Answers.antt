@@ -10,6 +10,7 @@ returns-clause-stores g c = record {
   fits = λ told state syncs fits.
       fits_stored c.args.self.now _ _ state syncs c.args.self.now.text.pair.files.named (c.store.ensures.acts.runs told).now fits;
   calls = c.store.ensures.calls;
+  modes = c.store.ensures.acts.modes;
   stops = record { last = c.store.ensures.acts.last; none = λ told calm. (unless_err c.store.result _ calm c.store.ensures.none).quiet told };
   frame = c.store.ensures.acts.frame;
   cause = c.store.ensures.cause;

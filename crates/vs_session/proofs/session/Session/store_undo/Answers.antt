@@ -1,8 +1,11 @@
-use Rattle.std.proofs.Common.{◌≡◌, Result, Ok, Err, IsErrAnd, IsErrOf, ap, refl, ◌∙◌}
+use Rattle.std.proofs.Common.{◌≡◌, Result, Ok, Err, IsErrAnd, IsErrOf, ap, refl, subst, ◌∙◌}
 use Rattle.vs_edit.specs.declared.store.StoreErr.{StoreErr}
 use Rattle.vs_host.specs.World.{Scene}
+use Rattle.vs_host.specs.declared.names.Names.{Names}
 use Rattle.vs_backup.proofs.Stops.{stops_as, stops_then}
 use Rattle.vs_session.specs.Fits.{names_of}
+use Rattle.vs_session.specs.Modes.{OnlyLike}
+use Rattle.vs_session.proofs.Modes.{like_after, like_looks}
 use Rattle.vs_session.proofs.Stored.{stored_bytes, stored_runs, stores_looked}
 use Rattle.vs_session.proofs.session.Session.store_undo.Goals as goal
 
@@ -28,6 +31,24 @@ returns-in-Ok-clause-runs g c told state syncs fits =
     let new = g.F.World.scene c.store_bytes.new.host in
     stored_runs (names_of c.args.self.now) (names_of c.undo_bytes.new.self) state.machine.text state.machine.history c.in_ok-bytes.bytes.items c.deref.result.now c.in_ok-bytes.ensures.kept.file.names c.deref.ensures.value
     (c.in_ok-bytes.ensures.bytes told state syncs fits) old mid new c.in_ok-bytes.ensures.kept.frame (c.in_ok-bytes.ensures.kept.looks told) c.in-Ok.ensures.stores.frame (c.in-Ok.ensures.stores.runs told)
+
+pub returns-in_err-bytes-clause-modes : goal.returns-in_err-bytes-clause-modes
+returns-in_err-bytes-clause-modes g c told =
+    like_looks (names_of c.args.self.now).file (g.F.World.scene c.args.host.now) (g.F.World.scene c.undo_bytes.new.host) (c.in_err-bytes.ensures.kept.looks told)
+
+pub returns-in-Ok-clause-modes : goal.returns-in-Ok-clause-modes
+returns-in-Ok-clause-modes g c told =
+    let mid = g.F.World.scene c.undo_bytes.new.host in
+    let new = g.F.World.scene c.store_bytes.new.host in
+    like_after (names_of c.args.self.now).file (g.F.World.scene c.args.host.now) mid new c.in_ok-bytes.ensures.kept.frame (c.in_ok-bytes.ensures.kept.looks told)
+    (subst (λ (n : Names). OnlyLike n.file mid new) c.in_ok-bytes.ensures.kept.file.names (c.in-Ok.ensures.stores.modes told))
+
+pub returns-clause-modes : goal.returns-clause-modes
+returns-clause-modes g c told =
+    let mid = g.F.World.scene c.undo_bytes.new.host in
+    let new = g.F.World.scene c.store_bytes.new.host in
+    like_after (names_of c.args.self.now).file (g.F.World.scene c.args.host.now) mid new c.in_ok-bytes.ensures.kept.frame (c.in_ok-bytes.ensures.kept.looks told)
+    (subst (λ (n : Names). OnlyLike n.file mid new) c.in_ok-bytes.ensures.kept.file.names (c.in-Err.ensures.stores.modes told))
 
 pub returns-in-Ok-clause-stored : goal.returns-in-Ok-clause-stored
 returns-in-Ok-clause-stored g c told state syncs fits =

@@ -12,7 +12,7 @@ returns-in-Ok-clause-wrote g c told state syncs fits =
     let old = g.F.World.scene c.args.host.now in
     let new = g.F.World.scene c.write_text.new.host in
     wrote state syncs c.args.self.now _ old new (Ok c.in-Ok.bytes) fits (c.in-Ok.ensures.written told state.machine.text syncs fits.stands.text) (λ is. absurd (cc))
-    (c.in-Ok.ensures.recovers told state.machine.text syncs fits.stands.text) (g.F.World.is_folder c.args.host.now told) (c.in-Ok.ensures.others told) (c.in-Ok.ensures.left told state.machine.text syncs fits.stands.text) (c.in-Ok.ensures.above told)
+    (c.in-Ok.ensures.recovers told state.machine.text syncs fits.stands.text) (g.F.World.is_folder c.args.host.now told) (c.in-Ok.ensures.others told) (c.in-Ok.ensures.left told state.machine.text syncs fits.stands.text) (λ there. c.in-Ok.ensures.modes there told) (c.in-Ok.ensures.above told)
     (c.in-Ok.ensures.calls told state.machine.text syncs fits.stands.text)
     (record {
       stands = record { text = c.in-Ok.ensures.fits told state.machine.text syncs fits.stands.text; history = c.mark_write.ensures.history state.machine.text state.machine.history fits.stands.history };
@@ -31,7 +31,7 @@ returns-in-Err-clause-wrote g c told state syncs fits =
     let new = g.F.World.scene c.write_text.new.host in
     wrote state syncs c.args.self.now _ old new (Err c.in-Err.why) fits (c.in-Err.ensures.written told state.machine.text syncs fits.stands.text)
     (λ is. subst (λ (b : Bool). IsNoName c.args.self.now.options.write (names_of c.args.self.now).file b old.folder) told (c.in-Err.ensures.no_name is))
-    (c.in-Err.ensures.recovers told state.machine.text syncs fits.stands.text) (g.F.World.is_folder c.args.host.now told) (c.in-Err.ensures.others told) (c.in-Err.ensures.left told state.machine.text syncs fits.stands.text) (c.in-Err.ensures.above told)
+    (c.in-Err.ensures.recovers told state.machine.text syncs fits.stands.text) (g.F.World.is_folder c.args.host.now told) (c.in-Err.ensures.others told) (c.in-Err.ensures.left told state.machine.text syncs fits.stands.text) (λ there. c.in-Err.ensures.modes there told) (c.in-Err.ensures.above told)
     (c.in-Err.ensures.calls told state.machine.text syncs fits.stands.text)
     (record {
       stands = record { text = c.in-Err.ensures.fits told state.machine.text syncs fits.stands.text; history = fits.stands.history };

@@ -6,6 +6,7 @@ use Rattle.vs_undo.specs.History.{history_marked}
 use Rattle.vs_ubind.specs.Storing.{StoresBy}
 use Rattle.vs_safety.specs.Undo.{HasUndo}
 use Rattle.vs_session.specs.Session.{after_sync, sync_in}
+use Rattle.vs_session.specs.Modes.{OnlyLike}
 use Rattle.vs_session.specs.Stores.{StoresUndo}
 use Rattle.vs_session.proofs.BothWritten.{answers_both}
 use Rattle.vs_session.proofs.Calls.{GoesOn-weaker}
@@ -24,7 +25,7 @@ returns-in-Ok-clause-step g c told state syncs instruction before start at is on
     let history = history_marked state.machine.history in
     let store = c.store_written.ensures in
     answers_both state syncs instruction is before c.args.self.now start mid s on c.in-Ok.bytes at after made new c.in-Ok.ensures.kept.frame same wrote store.stores.frame store.stores.cause.later
-    (subst (λ (n : Names). Runs (StoresUndo n state.machine.text history) made new) same (store.stores.runs told state.machine.text history undo_is)) _ _ store.ended
+    (subst (λ (n : Names). Runs (StoresUndo n state.machine.text history) made new) same (store.stores.runs told state.machine.text history undo_is)) (subst (λ (n : Names). OnlyLike n.file made new) same (store.stores.modes told)) _ _ store.ended
     (store.reply ∙ numbers after made.folder _ _ _ c.in-Ok.bytes wrote.fits)
     (λ done. subst (λ (n : Names). HasUndo n state.machine.text history new.folder) same (store.stored done told state.machine.text history undo_is))
     store.stores.cause
