@@ -5,7 +5,7 @@ use Rattle.vs_host.specs.Names.{names_of_file}
 use Rattle.vs_host.specs.Trace.{WroteOutput, Snapshot, Each, GoesOn}
 use Rattle.vs_host.specs.World.{Scene, IsRecorded, ChangesScript, snapshot_of}
 use Rattle.vs_host.specs.declared.names.Names.{Names}
-use Rattle.vs_disk.specs.Runs.{FailsLast, Inside}
+use Rattle.vs_disk.specs.Runs.{Inside}
 use Rattle.vs_disk.proofs.Runs.{Each-append, Each-weaker, goes_weaker}
 use Rattle.vs_pair.specs.Steps.{BothMoved}
 use Rattle.vs_script.specs.Reads.{IsAsBefore, ReadsAll}
@@ -18,7 +18,9 @@ use Rattle.vs_safety.proofs.SoFar.{parts_shorter}
 use Rattle.vs_session.specs.Opened.{Opened}
 use Rattle.vs_session.specs.Made.{LeavesNoneBut, LeavesNoneMade, StaysMoved}
 use Rattle.vs_top.specs.History.{CommandRun, Past, state_of, written}
-use Rattle.vs_top.specs.Calls.{StillSince, IsNearEnd, MovedSince, OpensClean, SomeLeft, StepCalls, CallsAsMarked, CallsSoFar, long_at}
+use Rattle.vs_top.specs.Calls.{StillSince, IsNearEnd, MovedSince, OpensClean, SomeLeft, StepCalls, ClosingCalls, CallsAsMarked, CallsSoFar, long_at}
+use Rattle.vs_top.specs.Readers.{MakesOwn, MakesReadable}
+use Rattle.vs_top.proofs.Readers.{readable_command, readable_looks, readable_near, readable_own, readable_still}
 
 -- ---- the names under which files are made
 
@@ -91,6 +93,7 @@ calls_on file start now new past was goes same =
       cleared = clear_to (SomeLeft file past) start now.folder new.folder was.cleared (ap (λ (s : State). s.folder) same);
       moved = moved_still (names_of_file file.name) (long_at file start []) start now new was.moved was.here goes same;
       here = moved_same (names_of_file file.name) now.folder new.folder was.here (ap (λ (s : State). s.folder) same);
+      readers = readable_still file.name past start now new was.readers goes same;
     }
 
 -- by reads of the script that succeeded
@@ -125,13 +128,14 @@ near_end ended new (inr left) folder faults = record { last = []; one = omega ar
 
 module _ (file : Opened) (start : Scene) where
   -- nothing was written
-  pub calls_unopened : (new : Scene) → new.output ≡ start.output → 0 < length (written file []) → (moments : List Snapshot) → new.trace ≡ moments ++ start.trace → Each (IsShorter (long_at file start [])) moments → CallsAsMarked file start new (record { past = []; closing = NotBegun })
-  calls_unopened new same some moments added shorter = record {
+  pub calls_unopened : (new : Scene) → MakesOwn start new → new.output ≡ start.output → 0 < length (written file []) → (moments : List Snapshot) → new.trace ≡ moments ++ start.trace → Each (IsShorter (long_at file start [])) moments → CallsAsMarked file start new (record { past = []; closing = NotBegun })
+  calls_unopened new own same some moments added shorter = record {
     opening = λ long. absurd (omega (arith, long, ap (λ (l : List ℕ). length l) same, some));
     commands = tt;
     closing = λ other. absurd (other refl);
     cleared = λ long. absurd (omega (arith, long, ap (λ (l : List ℕ). length l) same, some));
     moved = moved_unopened (names_of_file file.name) (long_at file start []) start new moments added shorter (omega (arith, ap (λ (l : List ℕ). length l) same, some));
+    readers = λ allowed owner found. own allowed owner;
   }
 
   -- the file was opened, and of the opening reply a part was written
@@ -142,6 +146,7 @@ module _ (file : Opened) (start : Scene) where
     closing = λ other. absurd (other refl);
     cleared = λ long. clear_to (SomeLeft file []) start opened.folder new.folder (λ made out gone. clean.cleared made gone) (ap (λ (s : State). s.folder) near.state);
     moved = moved_near (names_of_file file.name) (long_at file start []) start opened new (moved_opened (names_of_file file.name) (long_at file start []) start opened moments added shorter clean.moved) clean.moved near;
+    readers = readable_near file.name [] start opened new (λ allowed owner found. clean.readers allowed owner) near;
   }
 
   -- it stopped between two commands
@@ -154,24 +159,27 @@ module _ (file : Opened) (start : Scene) where
     moved = moved_on (names_of_file file.name) (long_at file start []) start now new was.moved
         (goes_weaker (λ m. (m.output ≡ now.output) × (m.folder ≡ now.folder)) (λ m. BothMoved (names_of_file file.name) m.folder) (λ m same. moved_same (names_of_file file.name) now.folder m.folder was.here same.1) now.trace new.trace looks.moments)
         (moved_same (names_of_file file.name) now.folder new.folder was.here looks.folder);
+    readers = readable_looks file.name past start now new was.readers looks;
   }
 
   -- it closed, of which no call failed but the last one
-  pub calls_close : (now ended new : Scene) (past : Past) (closing : Closing) → CallsSoFar file start now past → FailsLast now ended → LeavesNoneMade now.folder ended.folder → StaysMoved (names_of_file file.name) now ended → (closing ≡ NotBegun → ⊥)
+  pub calls_close : (now ended new : Scene) (past : Past) (closing : Closing) → CallsSoFar file start now past → ClosingCalls now ended → LeavesNoneMade now.folder ended.folder → StaysMoved (names_of_file file.name) now ended → (closing ≡ NotBegun → ⊥)
       → IsNearEnd ended new
       → CallsAsMarked file start new (record { past = past; closing = closing })
-  calls_close now ended new past closing was fails clears moves closed near =
+  calls_close now ended new past closing was calls clears moves closed near =
+      let fails = calls.fails in
       let newer : List Snapshot = near.last ++ (fails.last ++ fails.earlier) in
       let is : new.trace ≡ newer ++ now.trace =
       near.is ∙ ap (λ (ms : List Snapshot). near.last ++ ms) (fails.is ∙ sym (append_assoc fails.last fails.earlier now.trace)) ∙ sym (append_assoc near.last (fails.last ++ fails.earlier) now.trace) in
       record {
         opening = λ long. was.opening new newer is;
         commands = was.commands new newer is;
-        closing = λ other. record { asked = now; ended = ended; begins = was.still; holds = fails; ends = inr near };
+        closing = λ other. record { asked = now; ended = ended; begins = was.still; holds = calls; ends = inr near };
         cleared = λ long. clear_to (SomeLeft file past) start ended.folder new.folder (λ made out gone. clears made (was.cleared made out gone)) (ap (λ (s : State). s.folder) near.state);
         moved =
             let moved = moves was.here in
             moved_near (names_of_file file.name) (long_at file start []) start ended new (moved_on (names_of_file file.name) (long_at file start []) start now ended was.moved moved.0 moved.1) moved.1 near;
+        readers = readable_near file.name past start ended new (readable_own file.name past start now ended was.readers calls.readers) near;
       }
 
   -- ---- the run goes on
@@ -206,6 +214,8 @@ module _ (file : Opened) (start : Scene) where
         moved = moved_still (names_of_file file.name) (long_at file start []) start opened now (moved_opened (names_of_file file.name) (long_at file start []) start opened moments added shorter clean.moved) clean.moved
             (record { added = m ∷ []; is = told; each = ((λ i. record { folder = folder i; faults = faults i }), tt) }) (λ i. record { folder = folder i; faults = faults i });
         here = moved_same (names_of_file file.name) opened.folder now.folder clean.moved folder;
+        readers = readable_still file.name [] start opened now (λ allowed owner found. clean.readers allowed owner)
+            (record { added = m ∷ []; is = told; each = ((λ i. record { folder = folder i; faults = faults i }), tt) }) (λ i. record { folder = folder i; faults = faults i });
       }
 
   module _ (past : Past) (last : CommandRun) (asked ended now : Scene) (was : CallsSoFar file start asked past) (calls : StepCalls (names_of_file file.name) (state_of file.state past) last asked ended)
@@ -219,6 +229,9 @@ module _ (file : Opened) (start : Scene) where
     moved_since : MovedSince (names_of_file file.name) (long_at file start []) start ended
     moved_since = moved_on (names_of_file file.name) (long_at file start []) start asked ended was.moved moved_ended.0 moved_ended.1
 
+    readable_ended : MakesReadable file.name (last ∷ past) start ended
+    readable_ended = readable_command file.name past last start asked ended was.readers calls.found calls.readers
+
     -- the reply to a command was written in part
     pub calls_cut : IsNearEnd ended now → CallsAsMarked file start now (record { past = last ∷ past; closing = NotBegun })
     calls_cut near =
@@ -229,6 +242,7 @@ module _ (file : Opened) (start : Scene) where
           closing = λ other. absurd (other refl);
           cleared = λ long. clear_to (SomeLeft file (last ∷ past)) start ended.folder now.folder clear_ended (ap (λ (s : State). s.folder) near.state);
           moved = moved_near (names_of_file file.name) (long_at file start []) start ended now moved_since moved_ended.1 near;
+          readers = readable_near file.name (last ∷ past) start ended now readable_ended near;
         }
 
     -- it was written
@@ -268,4 +282,6 @@ module _ (file : Opened) (start : Scene) where
           moved = moved_still (names_of_file file.name) (long_at file start []) start ended now moved_since moved_ended.1
               (record { added = m ∷ []; is = told; each = ((λ i. record { folder = folder i; faults = faults i }), tt) }) (λ i. record { folder = folder i; faults = faults i });
           here = moved_same (names_of_file file.name) ended.folder now.folder moved_ended.1 folder;
+          readers = readable_still file.name (last ∷ past) start ended now readable_ended
+              (record { added = m ∷ []; is = told; each = ((λ i. record { folder = folder i; faults = faults i }), tt) }) (λ i. record { folder = folder i; faults = faults i });
         }

@@ -33,7 +33,7 @@ use Rattle.vs_session.specs.Made.{StaysMoved}
 use Rattle.vs_top.specs.History.{Past, history_of, state_of, written}
 use Rattle.vs_top.specs.Promise.{HasRun, RunsEdit}
 use Rattle.vs_top.specs.Run.{TellsRun, Did, KeepsMarks, HasNoFaultSince, HasRisenSince, KeepsSwap, Closes, AnswersAll, counts_of, OnlyFolder, FaultHasCause, IsTimed, opened_file, ran_of, closing_line}
-use Rattle.vs_top.specs.Calls.{CallsAsMarked}
+use Rattle.vs_top.specs.Calls.{CallsAsMarked, ClosingCalls}
 use Rattle.vs_top.specs.Turns.{Told, KeepsOpenFile, StopsAt, IsAtClose}
 use Rattle.vs_top.specs.declared.ending.Ending.{Ending}
 use Rattle.vs_top.specs.Ending.{ending_in}
@@ -41,6 +41,7 @@ use Rattle.std.specs.declared.result.Result.{Result}
 use Rattle.vs_top.specs.declared.ending.Ending.TheVariants as ending
 use Rattle.vs_top.proofs.Pushes.{flip_clean}
 use Rattle.vs_top.proofs.Calls.{calls_close, near_end, near_now}
+use Rattle.vs_top.proofs.Readers.{own_told}
 use Rattle.vs_top.proofs.Turning.{since_reply}
 use Rattle.vs_top.proofs.Counting.{only_then, only_folder, only_output, causes_on, counted_works}
 
@@ -176,6 +177,9 @@ module _ (tells : Tells) (name : List ℕ) (old now mid : Scene) (session : Sess
   moves : {ok : Bool} (how : End) → Finishes tells session now mid how ok → StaysMoved names now mid
   moves how finishes = subst (λ (n : Names). StaysMoved n now mid) keeps.names (finishes.moved told.folder)
 
+  closing_calls : {ok : Bool} {how : End} → Finishes tells session now mid how ok → ClosingCalls now mid
+  closing_calls finishes = record { fails = finishes.last told.folder; readers = own_told tells now mid finishes.modes told.folder }
+
   pub run_fails : (how : End) → StopsAt how file old now past → Finishes tells session now mid how false → HasRisen now.folder_faults mid.folder_faults → HasRun name old mid ending.FolderFault marks
   run_fails how stops finishes rose = record {
     did = did how false;
@@ -184,7 +188,7 @@ module _ (tells : Tells) (name : List ℕ) (old now mid : Scene) (session : Sess
     safe = λ free. ends_safe how false mid [] finishes (wrote_none mid) (line_of how, refl) (inl (record { folder = refl; output = refl; trace = refl }));
     left = inr (left how false mid refl finishes);
     last = rose_last folder_count old now mid (λ m none. none.folder) (finishes.last told.folder) rose here.counted.folder;
-    calls = calls_close file old now mid mid past (closing_of how false state) here.calls (finishes.last told.folder) (finishes.cleared told.folder) (moves how finishes) (closed_by how false) (near_now mid);
+    calls = calls_close file old now mid mid past (closing_of how false state) here.calls (closing_calls finishes) (finishes.cleared told.folder) (moves how finishes) (closed_by how false) (near_now mid);
   }
 
   pub run_cut : (how : End) (new : Scene) (n : ℕ) → StopsAt how file old now past → Finishes tells session now mid how true
@@ -202,7 +206,7 @@ module _ (tells : Tells) (name : List ℕ) (old now mid : Scene) (session : Sess
     safe = λ free. ends_written how new n finishes (subst (λ (l : List ℕ). Writes n l mid new) (sym (line_is how true state)) writes);
     left = left how true new writes.folder finishes;
     last = rose_at output_count old mid new WroteOutput [] writes.added rose (counted how finishes);
-    calls = calls_close file old now mid new past (closing_of how true state) here.calls (finishes.last told.folder) (finishes.cleared told.folder) (moves how finishes) (closed_by how true) (near_end mid new writes.added writes.folder writes.faults);
+    calls = calls_close file old now mid new past (closing_of how true state) here.calls (closing_calls finishes) (finishes.cleared told.folder) (moves how finishes) (closed_by how true) (near_end mid new writes.added writes.folder writes.faults);
   }
 
   all_answered : (how : End) (new : Scene) → StopsAt how file old now past → Finishes tells session now mid how true → new.output ≡ mid.output ++ closing_line (closing_of how true state) → new.script ≡ mid.script
@@ -223,7 +227,7 @@ module _ (tells : Tells) (name : List ℕ) (old now mid : Scene) (session : Sess
       (all_answered how new stops finishes (writes.output ∙ ap (λ (l : List ℕ). mid.output ++ l) (take_all (length line) line (omega arith))) script writes.faults writes.folder writes.added)
       (left how true new writes.folder finishes)
       (λ free. ends_written how new (length line) finishes (subst (λ (l : List ℕ). Writes (length line) l mid new) (sym (line_is how true state)) writes))
-      (calls_close file old now mid new past (closing_of how true state) here.calls (finishes.last told.folder) (finishes.cleared told.folder) (moves how finishes) (closed_by how true) (near_end mid new writes.added writes.folder writes.faults))
+      (calls_close file old now mid new past (closing_of how true state) here.calls (closing_calls finishes) (finishes.cleared told.folder) (moves how finishes) (closed_by how true) (near_end mid new writes.added writes.folder writes.faults))
 
 -- ---- over any host
 

@@ -48,6 +48,7 @@ use Rattle.vs_top.specs.declared.ending.Ending.{Ending}
 use Rattle.vs_top.specs.declared.ending.Ending.TheVariants as ending
 use Rattle.vs_top.proofs.Limits.{within_or_not, passes_no_limit}
 use Rattle.vs_top.proofs.Calls.{calls_unopened}
+use Rattle.vs_top.proofs.Readers.{own_told}
 use Rattle.vs_top.proofs.Counting.{only_folder, counted_works}
 use Rattle.vs_top.proofs.Closing.{fresh_image}
 use Rattle.vs_top.proofs.Opening.{opening_some, did_none, kept_none, no_times, no_causes}
@@ -106,7 +107,7 @@ module _ (tells : Tells) (name : List ℕ) (old new : Scene) (pending : IsTrue t
       last = last;
       calls =
           let runs = acts.runs told.folder in
-          calls_unopened (opened_file old name) old new (ap (λ (s : Scene). s.output) acts.frame) (opening_some name (opened_file old name).found) runs.moments.added runs.moments.is
+          calls_unopened (opened_file old name) old new (own_told tells old new acts.modes told.folder) (ap (λ (s : Scene). s.output) acts.frame) (opening_some name (opened_file old name).found) runs.moments.added runs.moments.is
           (Each-weaker (Inside old (Opens name old.folder)) (IsShorter (length old.output + length (opening_at old name)))
           (λ m inside. let some = opening_some name (opened_file old name).found in omega (arith, some, ap (λ (l : List ℕ). length l) inside.output)) runs.moments.added runs.moments.each);
     }
@@ -180,7 +181,7 @@ module _ (tells : Tells) (name : List ℕ) (old new : Scene) (pending : IsTrue t
         between = subst (λ (n : Names). IsBetween n (opened (document_at old name)) new.folder) names (fits_between session.text new.folder _ _ (fits told.folder).stands.text);
       };
       counted = counted_works (names_of_file name) None _ old old new (ap (λ (s : Scene). s.out_faults) acts.frame) (works told (free told.folder)) (counted_none output_count old);
-      clean = record { last = acts.last told.folder; none = none; cleared = cleared told.folder; moved = moved told.folder };
+      clean = record { last = acts.last told.folder; none = none; cleared = cleared told.folder; moved = moved told.folder; readers = own_told tells old new acts.modes told.folder };
     };
     keeps = record { free = free; file = file; names = names; counts = only_folder old new acts.frame acts.later; causes = All-nil (FaultHasCause (counts_of old) (counts_of new)) };
     script = ap (λ (s : Scene). s.script) acts.frame;

@@ -2,6 +2,7 @@ mod Words
 mod Limits
 mod Pushes
 mod Counting
+mod Readers
 mod Calls
 mod Closing
 mod Reading
@@ -9,6 +10,7 @@ mod Turning
 mod Stepping
 mod Opening
 mod Edits
+mod MadeLike
 mod Forms
 mod Due
 mod StressFolders
@@ -21,6 +23,7 @@ pub mod StressCommands
 mod Does
 pub mod PairKeeps
 pub mod PairStages
+pub mod PairReaders
 pub mod PairAnswers
 pub mod PairCarried
 pub mod PairSteps

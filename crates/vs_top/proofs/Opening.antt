@@ -69,7 +69,7 @@ module _ (tells : Tells) (name : List ℕ) (old now : Scene) (session : Session)
           safe = λ free. not_opened (is_foreign (names_of_file name)) (names_of_file name) quit_line (document_at old name) (opening_at old name) old now here.begun.begins (opening_some name (opened_file old name).found);
           left = (refl, inr (session, at.keeps.names, here.fits));
           last = tt;
-          calls = calls_unopened (opened_file old name) old now here.begun.begins.works.output (opening_some name (opened_file old name).found) here.begun.begins.works.moments.added here.begun.begins.works.moments.is
+          calls = calls_unopened (opened_file old name) old now here.clean.readers here.begun.begins.works.output (opening_some name (opened_file old name).found) here.begun.begins.works.moments.added here.begun.begins.works.moments.is
               (shorter_by (names_of_file name) None _ old now here.begun.begins.works (length old.output + length (opening_at old name)) (let some = opening_some name (opened_file old name).found in omega (arith, some)));
         };
     swap = λ told is. absurd (cc);

@@ -27,11 +27,13 @@ use Rattle.vs_top.specs.Run.{TellsRun}
 use Rattle.vs_top.specs.PairHistory.{PairAnswer, AnswerList, BothFiles, MayAnswer, WasSynced, closing_under, file_for}
 use Rattle.vs_top.specs.PairHistory.{has_error, marks_of_both, reply_after, stage_of, stage_under, state_for, written_both}
 use Rattle.vs_top.specs.PairScript.{IsTranscript, Source, Transcript, answers_of, taking}
-use Rattle.vs_top.specs.PairPromise.{AllWhole, HasFailed, HasRunBoth, KeepsPromise, LastCut, LastFailed, LeavesOthers, files_in, party_for, row_both}
+use Rattle.vs_top.specs.PairPromise.{AllWhole, HasFailed, HasRunBoth, KeepsPromise, LastCut, LastFailed, LeavesOthers, MakesReadableBoth, files_in, party_for, row_both}
 use Rattle.vs_top.specs.PairTurns.{IsInState, ToldPair}
 use Rattle.vs_top.specs.declared.ending.Ending.{Ending}
 use Rattle.vs_top.specs.declared.ending.Ending.TheVariants as ending
+use Rattle.vs_top.proofs.PairReaders.{both_own}
 use Rattle.vs_top.proofs.PairStages.{counted_quiet, kept_as, others_look, others_wrote, wrote_some}
+use Rattle.vs_top.proofs.Readers.{own_looks, own_wrote}
 
 -- both sessions keep their promises while an answer is under way
 abbrev pub KeptUnder : List ℕ → List ℕ → Scene → Scene → AnswerList → PairAnswer → Type 0
@@ -46,6 +48,7 @@ pub record Carried (one two : List ℕ) (old now ended : Scene) (answers : Answe
   pub added : ended.trace ≡ newer ++ now.trace
   pub counted : IsCounted output_count old ended
   pub others : LeavesOthers one two old ended
+  pub readers : MakesReadableBoth (files_in old one two) (answer ∷ answers) old ended
   -- with its last byte both go on
   pub go : (new : Scene) → Replied (reply_after (files_in old one two) answers answer) ended new
       → BothGo (party_for which.One (files_in old one two)) (party_for which.Two (files_in old one two)) old
@@ -81,6 +84,7 @@ module _ (tells : Tells) (told : TellsRun tells) (one two : List ℕ) (old now e
         first = λ free. kept_as (party_for which.One files) old (stage_of which.One files answers) now kept.first_kept;
         second = λ free. kept_as (party_for which.Two files) old (stage_of which.Two files answers) now kept.second_kept;
         others = here.others;
+        readers = here.readers;
         failed = failed;
         left = λ is. absurd (cc);
       }
@@ -101,15 +105,16 @@ module _ (tells : Tells) (told : TellsRun tells) (one two : List ℕ) (old now e
         first = λ free. kept_as (party_for which.One files) old (stage_of which.One files answers) new kept.first_kept;
         second = λ free. kept_as (party_for which.Two files) old (stage_of which.Two files answers) new kept.second_kept;
         others = others_look one two old now new here.others looks;
+        readers = both_own files answers old now new here.readers (own_looks now new looks);
         failed = failed;
         left = λ is. absurd (cc);
       }
 
   -- the work for an answer failed, so that it was not begun
   pub failed_both : (source : Source) (answer : PairAnswer) → IsTranscript old.script (taking source answer ∷ transcript) → MayAnswer files (answer ∷ answers) → marks ≡ marks_of_both (answer ∷ answers)
-      → HasFailed answer → ended.output ≡ now.output → LeavesOthers one two old ended → KeptUnder one two old ended answers answer → RoseLast folder_count old ended
+      → HasFailed answer → ended.output ≡ now.output → LeavesOthers one two old ended → MakesReadableBoth files (answer ∷ answers) old ended → KeptUnder one two old ended answers answer → RoseLast folder_count old ended
       → HasRunBoth one two old ended ending.FolderFault marks
-  failed_both source answer read may kept failed output others safe rose = record {
+  failed_both source answer read may kept failed output others readers safe rose = record {
     did = record { transcript = taking source answer ∷ transcript; reach = LastFailed };
     read = read;
     may = may;
@@ -119,6 +124,7 @@ module _ (tells : Tells) (told : TellsRun tells) (one two : List ℕ) (old now e
     first = λ free. safe.0;
     second = λ free. safe.1;
     others = others;
+    readers = readers;
     failed = rose;
     left = λ is. absurd (cc);
   }
@@ -153,6 +159,7 @@ module _ (tells : Tells) (told : TellsRun tells) (one two : List ℕ) (old now e
             first = λ free. safe.0;
             second = λ free. safe.1;
             others = others_wrote one two old ended new carried.others part.0 part.2;
+            readers = both_own files (answer ∷ answers) old ended new carried.readers (own_wrote ended new part.0 part.2);
             failed = rose_last output_count old ended new (λ m none. none.out) (puts.last told.folder) (puts.cause.risen failed) carried.counted;
             left = λ is. absurd (cc);
           }
@@ -178,6 +185,7 @@ module _ (tells : Tells) (told : TellsRun tells) (one two : List ℕ) (old now e
                 (carried.added ∙ ap (λ (l : List Snapshot). carried.newer ++ l) here.counted.script.added ∙ sym (append_assoc carried.newer here.counted.script.moments old.trace))
                 (puts.none told.folder calm) (wrote_some reply ended new some wrote);
             others = others_wrote one two old ended new carried.others reply wrote;
+            readers = both_own files (answer ∷ answers) old ended new carried.readers (own_wrote ended new reply wrote);
           }
 
 -- ---- the states of the sessions

@@ -28,10 +28,12 @@ use Rattle.vs_top.specs.Turns.{document_at}
 use Rattle.vs_top.specs.PairHistory.{BothFiles, file_for, opening_for, stage_before, stage_of, stage_opened, state_for}
 use Rattle.vs_top.specs.PairPromise.{BeforeOpening, BetweenOpenings, HasRunBoth, LeavesOthers, files_in, party_for}
 use Rattle.vs_top.specs.PairTurns.{IsInState, ToldOpenPair, ToldPair}
+use Rattle.vs_top.specs.Readers.{MakesOwn}
 use Rattle.vs_top.specs.declared.ending.Ending.TheVariants as ending
 use Rattle.vs_top.proofs.Opening.{opening_some}
 use Rattle.vs_top.proofs.PairAnswers.{part_taken}
 use Rattle.vs_top.proofs.PairStages.{counted_quiet, kept_as, others_wrote, wrote_some}
+use Rattle.vs_top.proofs.Readers.{own_then, own_wrote}
 
 module _ (tells : Tells) (told : TellsRun tells) (one two : List ℕ) (old now : Scene) (here : ToldOpenPair one two old now) (marks : List Mark) (none : marks ≡ []) where
   abbrev files : BothFiles
@@ -74,6 +76,7 @@ module _ (tells : Tells) (told : TellsRun tells) (one two : List ℕ) (old now :
         first = λ free. kept_as first old (stage_before which.One files) new kept.first_kept;
         second = λ free. kept_as second old (stage_before which.Two files) new kept.second_kept;
         others = others_wrote one two old now new here.others part.0 part.2;
+        readers = λ allowed owner found. own_then old now new here.readers (own_wrote now new part.0 part.2) allowed owner;
         failed = rose_last output_count old now new (λ m no_fault. no_fault.out) (puts.last told.folder) (puts.cause.risen failed) here.counted;
         left = λ is. (s, stands.names, subst (λ (d : Disk). Fits s d files.one.state (opened (document_at old one))) (sym part.2.folder) (stands.fits told.folder));
       }
@@ -87,6 +90,9 @@ module _ (tells : Tells) (told : TellsRun tells) (one two : List ℕ) (old now :
 
     others_mid : LeavesOthers one two old mid
     others_mid = others_wrote one two old now mid here.others one_line one_wrote
+
+    own_mid : MakesOwn old mid
+    own_mid = own_then old now mid here.readers (own_wrote now mid one_line one_wrote)
 
     output_mid : mid.output ≡ old.output ++ one_line
     output_mid = one_wrote.output ∙ ap (λ (l : List ℕ). l ++ one_line) output_now
@@ -111,6 +117,7 @@ module _ (tells : Tells) (told : TellsRun tells) (one two : List ℕ) (old now :
             first = λ free. kept_as first old (stage_opened which.One files) new kept.first_kept;
             second = λ free. kept_as second old (stage_opened which.Two files) new kept.second_kept;
             others = others_wrote one two old mid new others_mid part.0 part.2;
+            readers = λ allowed owner found. own_then old mid new own_mid (own_wrote mid new part.0 part.2) allowed owner;
             failed = rose_last output_count old mid new (λ m no_fault. no_fault.out) (puts.last told.folder) (puts.cause.risen failed)
                 (counted_on output_count old now mid (goes_weaker (HasNoFault now) (λ m. m.out_faults ≡ now.out_faults) (λ m no_fault. no_fault.out) now.trace mid.trace one_quiet.moments) one_quiet.out here.counted);
             left = λ is. absurd (cc);
@@ -136,6 +143,7 @@ module _ (tells : Tells) (told : TellsRun tells) (one two : List ℕ) (old now :
                 (one_wrote.moments.is ∙ ap (λ l. one_wrote.moments.added ++ l) here.counted.added ∙ sym (append_assoc one_wrote.moments.added here.counted.moments old.trace))
                 (puts.none told.folder calm) (wrote_some two_line mid new some_two wrote);
             others = others_wrote one two old mid new others_mid two_line wrote;
+            readers = λ allowed owner found. own_then old mid new own_mid (own_wrote mid new two_line wrote) allowed owner;
           }
         where
           wrote_two : Wrote two_line mid new

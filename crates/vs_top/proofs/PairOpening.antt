@@ -46,6 +46,7 @@ use Rattle.vs_top.specs.declared.ending.Ending.TheVariants as ending
 use Rattle.vs_top.proofs.Edits.{none_there, settled}
 use Rattle.vs_top.proofs.Opening.{opening_some}
 use Rattle.vs_top.proofs.PairStages.{outside_one, outside_two}
+use Rattle.vs_top.proofs.Readers.{own_told}
 
 -- ---- before
 
@@ -146,6 +147,7 @@ module _ (tells : Tells) (told : TellsRun tells) (one two : List ℕ) (old new :
       second = λ free.
           not_opened (others_of second) second.names second.line (document_at old two) (opening_for which.One files ++ opening_for which.Two files) old new (begins_two free) some_both;
       others = others_opened;
+      readers = λ allowed owner found. own_told tells old new acts.modes told.folder allowed owner;
       failed = failed;
       left = λ is. left;
     }
@@ -194,4 +196,5 @@ module _ (tells : Tells) (told : TellsRun tells) (one two : List ℕ) (old new :
           (goes_weaker (Inside old (OpensBoth one two old.folder)) (λ m. m.out_faults ≡ old.out_faults) (λ m at. at.out_faults) old.trace new.trace (acts.runs told.folder).moments)
           (ap (λ (s : Scene). s.out_faults) acts.frame) (counted_none output_count old);
       others = others_opened;
+      readers = own_told tells old new acts.modes told.folder;
     }

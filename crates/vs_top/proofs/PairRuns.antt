@@ -238,6 +238,7 @@ module _ (tells : Tells) (one two : List ℕ) (old now : Scene) (multi : Multi) 
         first = λ free. not_opened (others_of (party_for which.One files)) (party_for which.One files).names (party_for which.One files).line (document_at old one) (opening_for which.One files) old now here.first.begins one_some;
         second = λ free. not_opened (others_of (party_for which.Two files)) (party_for which.Two files).names (party_for which.Two files).line (document_at old two) (opening_for which.One files ++ opening_for which.Two files) old now here.second.begins some;
         others = here.others;
+        readers = λ allowed owner found. here.readers allowed owner;
         failed = tt;
         left = λ is. inr (first.0, first.2.names, first.2.fits told.folder);
       }

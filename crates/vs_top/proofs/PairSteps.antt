@@ -26,6 +26,7 @@ use Rattle.vs_session.specs.declared.ending.End.{End}
 use Rattle.vs_session.specs.declared.ending.End.TheVariants as end
 use Rattle.vs_session.specs.declared.session.Session.{Session}
 use Rattle.vs_session.specs.Calls.{Finishes}
+use Rattle.vs_session.specs.Modes.{KeepsReaders}
 use Rattle.vs_session.specs.Fits.{Answers, Fits, SameFile, StepsIn, names_of}
 use Rattle.vs_session.specs.Session.{SessionState, Ended, accepts_quit, reply_of, state_after, sync_in, turn_of}
 use Rattle.vs_multi.specs.declared.multi.Multi.{Multi}
@@ -38,12 +39,15 @@ use Rattle.vs_top.specs.History.{CommandRun}
 use Rattle.vs_top.specs.PairHistory as history
 use Rattle.vs_top.specs.PairHistory.{Answered, Left, AfterQuit, OfNone, Preserved, BothFiles, MayAnswer, WasSynced, file_for, has_error, marks_of_both, reply_after, stage_of, state_for}
 use Rattle.vs_top.specs.PairScript.{IsTranscript, Source, Transcript, answers_of, taking}
-use Rattle.vs_top.specs.PairPromise.{HasFailed, HasRunBoth, files_in, party_for}
+use Rattle.vs_top.specs.PairPromise.{HasFailed, HasRunBoth, MakesReadableBoth, files_in, party_for}
 use Rattle.vs_top.specs.PairTurns.{AsksEnd, AsksFor, HasCommand, IsInState, ToldPair, last_answer}
+use Rattle.vs_top.specs.Readers.{MakesOwn}
 use Rattle.vs_top.specs.declared.ending.Ending.TheVariants as ending
 use Rattle.vs_top.proofs.Closing.{fresh_image, line_of}
 use Rattle.vs_top.proofs.Pushes.{and_not}
+use Rattle.vs_top.proofs.PairReaders.{both_own}
 use Rattle.vs_top.proofs.PairStages.{others_look}
+use Rattle.vs_top.proofs.Readers.{own_looks, own_told}
 use Rattle.vs_top.proofs.PairAnswers.{Carried, KeepsFit, KeptUnder, cut_both, failed_both, in_state_none, in_state_on, running_of, whole_both}
 use Rattle.vs_top.proofs.PairCarried.{carried_after, carried_command, carried_none, carried_quit, carried_sync, ended_some, none_some, preserved_some, quit_some, quit_under}
 
@@ -101,6 +105,7 @@ module _ (tells : Tells) (told : TellsRun tells) (one two : List ℕ) (old now :
     in_state = in_state;
     counted = counted;
     others = others_look one two old now new here.others looks;
+    readers = both_own files answers old now new here.readers (own_looks now new looks);
   }
 
   -- ---- an answer that is no command's
@@ -195,16 +200,19 @@ module _ (tells : Tells) (told : TellsRun tells) (one two : List ℕ) (old now :
           subst (λ (n : Names). Works n None (RecoversOrNone n (recoverable (syncs_of running.0))) now mid) running.2
           (finishes.quit is told.folder (state_for session files answers) (syncs_of running.0) running.3).works
 
+      own_end : {how : End} {done : Bool} → Finishes tells s now mid how done → MakesOwn now mid
+      own_end finishes = own_told tells now mid finishes.modes told.folder
+
       carried_end : (how : End) → Finishes tells s now mid how true → Carried one two old now mid answers (last_answer how session quit true)
       carried_end end.Sync finishes =
-          carried_sync one two old now multi marks clean transcript here mid (ap (λ (x : Scene). x.out_faults) finishes.frame) running.0 true session running.1 (syncs_stepped end.Sync true refl finishes)
+          carried_sync one two old now multi marks clean transcript here mid (ap (λ (x : Scene). x.out_faults) finishes.frame) running.0 true session running.1 (own_end finishes) (syncs_stepped end.Sync true refl finishes)
       carried_end end.Quit finishes =
-          carried_quit one two old now multi marks clean transcript here mid running.0 quit (ap (λ (x : Scene). x.out_faults) finishes.frame) session running.1 (removes end.Quit true refl finishes)
+          carried_quit one two old now multi marks clean transcript here mid running.0 quit (ap (λ (x : Scene). x.out_faults) finishes.frame) session running.1 (own_end finishes) (removes end.Quit true refl finishes)
           (fresh_image names mid.folder (subst (λ (n : Names). IsFresh n mid.folder) running.2 (finishes.gone refl refl told.folder)))
 
       kept_end : (how : End) → Finishes tells s now mid how false → KeptUnder one two old mid answers (last_answer how session quit false)
       kept_end end.Sync finishes =
-          (carried_sync one two old now multi marks clean transcript here mid (ap (λ (x : Scene). x.out_faults) finishes.frame) running.0 false session running.1 (syncs_stepped end.Sync false refl finishes)).cut
+          (carried_sync one two old now multi marks clean transcript here mid (ap (λ (x : Scene). x.out_faults) finishes.frame) running.0 false session running.1 (own_end finishes) (syncs_stepped end.Sync false refl finishes)).cut
           mid [] (wrote_none mid) (reply_after files answers (Preserved session false), refl)
       kept_end end.Quit finishes =
           quit_under one two old now multi marks clean transcript here mid running.0 quit session running.1 (removes end.Quit false refl finishes) mid [] (wrote_none mid)
@@ -212,7 +220,7 @@ module _ (tells : Tells) (told : TellsRun tells) (one two : List ℕ) (old now :
 
       others_end : (how : End) (done : Bool) → Finishes tells s now mid how done → Rattle.vs_top.specs.PairPromise.LeavesOthers one two old mid
       others_end end.Sync done finishes =
-          (carried_sync one two old now multi marks clean transcript here mid (ap (λ (x : Scene). x.out_faults) finishes.frame) running.0 done session running.1 (syncs_stepped end.Sync done refl finishes)).others
+          (carried_sync one two old now multi marks clean transcript here mid (ap (λ (x : Scene). x.out_faults) finishes.frame) running.0 done session running.1 (own_end finishes) (syncs_stepped end.Sync done refl finishes)).others
       others_end end.Quit done finishes = worked session (removes end.Quit done refl finishes)
         where
           worked : (which : Which) → Works (party_for which files).names None (RecoversOrNone (party_for which files).names (recoverable (syncs_of running.0))) now mid → Rattle.vs_top.specs.PairPromise.LeavesOthers one two old mid
@@ -220,6 +228,10 @@ module _ (tells : Tells) (told : TellsRun tells) (one two : List ℕ) (old now :
               Rattle.vs_top.proofs.PairStages.others_worked one two old now mid here.others (party_for which.One files) here.beside.first (Rattle.vs_top.proofs.PairStages.outside_one one two) here.settled None _ works
           worked which.Two works =
               Rattle.vs_top.proofs.PairStages.others_worked one two old now mid here.others (party_for which.Two files) here.beside.second (Rattle.vs_top.proofs.PairStages.outside_two one two) here.settled None _ works
+
+      readers_end : (how : End) (done : Bool) → Finishes tells s now mid how done → MakesReadableBoth files (last_answer how session quit done ∷ answers) old mid
+      readers_end end.Sync done finishes = both_own files answers old now mid here.readers (own_end finishes)
+      readers_end end.Quit done finishes = both_own files answers old now mid here.readers (own_end finishes)
 
       may_end : (how : End) (synced : Bool) → Rattle.vs_top.specs.PairTurns.MayEnd how (state_for session files answers) quit → MayAnswer files (last_answer how session quit synced ∷ answers)
       may_end end.Sync synced may = record { one = here.may.one; two = here.may.two; quits = (tt, here.may.quits) }
@@ -249,7 +261,7 @@ module _ (tells : Tells) (told : TellsRun tells) (one two : List ℕ) (old now :
       pub end_fails : Finishes tells s now mid how false → HasRunBoth one two old mid ending.FolderFault marks
       end_fails finishes =
           failed_both tells told one two old now mid multi marks clean transcript here source (last_answer how session quit false) (asks.read false) (may_end how false asks.may) (marks_end how false) (has_failed how)
-          (ap (λ (x : Scene). x.output) finishes.frame) (others_end how false finishes) (kept_end how finishes)
+          (ap (λ (x : Scene). x.output) finishes.frame) (others_end how false finishes) (readers_end how false finishes) (kept_end how finishes)
           (rose_last folder_count old now mid (λ m none. none.folder) (finishes.last told.folder) (finishes.cause.risen refl) here.counted.folder)
 
       line_tagged : (how : End) → tagged_for session (line_of how) ≡ reply_after files answers (last_answer how session quit true)
@@ -313,6 +325,9 @@ module _ (tells : Tells) (told : TellsRun tells) (one two : List ℕ) (old now :
         step_own : Stepped (party_for session files).names (syncs_of running.0) (turn_of (state_for session files answers) command step.ended) now stepped
         step_own = subst (λ (n : Names). Stepped n (syncs_of running.0) (turn_of (state_for session files answers) command step.ended) now stepped) running.2 step.stepped
 
+        keeps_own : KeepsReaders (file_for session files).name command now stepped
+        keeps_own = subst (λ (n : Names). KeepsReaders n.file command now stepped) running.2 step.modes
+
         may_step : (w : Which) → w ≡ session → MayAnswer files (Answered w (record { instruction = command; ended = step.ended }) ∷ answers)
         may_step which.One is = record {
           one = (
@@ -349,7 +364,7 @@ module _ (tells : Tells) (told : TellsRun tells) (one two : List ℕ) (old now :
               (Rattle.vs_tagged.proofs.Lines.tagged_some (Rattle.vs_top.specs.Tags.prefix_of session) reply.bytes some)
 
           carried : Carried one two old now stepped answers answer
-          carried = carried_command one two old now multi marks clean transcript here stepped (ap (λ (x : Scene). x.out_faults) frame) running.0 command step.ended session running.1 step_own reply_some
+          carried = carried_command one two old now multi marks clean transcript here stepped (ap (λ (x : Scene). x.out_faults) frame) running.0 command step.ended session running.1 step_own keeps_own reply_some
 
           pub step_cut : Failed → HasRunBoth one two old new ending.OutputFault marks'
           step_cut failed =

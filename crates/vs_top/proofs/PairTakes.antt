@@ -136,4 +136,5 @@ told_silent one two old now multi marks clean transcript source here comes answe
   in_state = here.in_state;
   counted = here.counted;
   others = here.others;
+  readers = here.readers;
 }

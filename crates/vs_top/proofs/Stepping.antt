@@ -36,6 +36,7 @@ use Rattle.vs_session.specs.Session.{SessionState, is_fault, accepts_quit, state
 use Rattle.vs_session.specs.Opened.{Opened}
 use Rattle.vs_session.specs.Failures.{FailsOnce}
 use Rattle.vs_session.specs.Made.{ClearsMade}
+use Rattle.vs_session.specs.Modes.{KeepsMode, KeepsReaders}
 use Rattle.vs_session.specs.Wholeness.{StaysWhole}
 use Rattle.vs_session.specs.Fits.{Answers, Fits, StepsIn, names_of}
 use Rattle.vs_top.specs.History.{CommandRun, Past, any_error, commands_then, history_of, marks_of, state_of, written}
@@ -106,9 +107,12 @@ module _ {T : Type 0} {x : T} (tells : Tells) (name : List ℕ) (old now read st
 
     calls_stepped : StepCalls names state last read stepped
     calls_stepped = record {
+      found = stepping.found;
       fails = subst (λ (n : Names). FailsOnce n state taken.first answers.ended read stepped) keeps answers.calls;
       whole = subst (λ (n : Names). StaysWhole n state taken.first answers.ended read stepped) keeps answers.whole;
       cleared = subst (λ (n : Names). ClearsMade n state taken.first answers.ended read stepped) keeps answers.cleared;
+      readers = subst (λ (n : Names). KeepsReaders n.file taken.first read stepped) keeps answers.modes;
+      mode = subst (λ (n : Names). KeepsMode n.file state taken.first answers.ended read stepped) keeps answers.mode;
     }
 
     kept_now : (marks' : List Mark) → marks' ≡ marks ++ mark ∷ [] → KeepsMarks file marks' past'

@@ -37,6 +37,7 @@ use Rattle.vs_stress.specs.Commands.{stress_commands}
 use Rattle.vs_top.specs.Ending.{ending_in}
 use Rattle.vs_top.specs.History.{Past, any_error}
 use Rattle.vs_top.specs.Promise.{HasStress, RunsStress, row}
+use Rattle.vs_top.specs.Readers.{MakesOwn}
 use Rattle.vs_top.specs.Run.{Did, FaultHasCause, KeepsMarks, IsTimed, OnlyFolder, counts_of, opened_file}
 use Rattle.vs_top.specs.Stress.{TellsStress, HasStressed, HasStretches, IsBeforeLine, IsBehind, IsStressMoment, IsStressSafe, StressEnds, folder_after, is_up_to, stress_history, stress_line, stress_name, stress_state, stress_document, stress_turns}
 use Rattle.vs_top.specs.StressCalls.{StressCalls}
@@ -45,6 +46,7 @@ use Rattle.vs_top.specs.declared.ending.Ending.{Ending}
 use Rattle.vs_top.specs.declared.ending.Ending.TheVariants as ending
 use Rattle.vs_top.proofs.Counting.{all_counted, causes_on, only_folder, only_output, only_then}
 use Rattle.vs_top.proofs.Pushes.{flip_clean}
+use Rattle.vs_top.proofs.Readers.{own_still, own_then, own_told}
 use Rattle.vs_top.proofs.StressSteps.{commands_are}
 use Rattle.vs_top.proofs.StressFolders.{as_many, called_on, stress_syncs, folders_on, later_read, later_written, stretches_later, stretches_on, told_folder}
 
@@ -88,7 +90,7 @@ module _ (OfHost : Scene → Type 0) (tells : Tells) (old now : Scene) (session 
         answered = answered;
         safe = λ free. safe_now told (stress_line count old here.0);
         last = last;
-        calls = record { moments = here.2.moments; added = here.2.added; each = here.2.calls; moved = here.2.moved };
+        calls = record { moments = here.2.moments; added = here.2.added; each = here.2.calls; moved = here.2.moved; readers = here.2.readers };
       }
 
   -- there is no memory
@@ -142,6 +144,7 @@ module _ (OfHost : Scene → Type 0) (tells : Tells) (old now : Scene) (session 
             cleared = subst (λ (s : Scene). LeavesNoneMade old.folder s.folder) (sym is) here.2.cleared;
             moved = here.2.moved;
             here = subst (λ (s : Scene). BothMoved names s.folder) (sym is) here.2.here;
+            readers = subst (λ (s : Scene). MakesOwn old s) (sym is) here.2.readers;
             newest_at_start = here.2.newest_at_start;
             newest = subst HasNewest (sym is) here.2.newest;
             output = ap (λ (s : Scene). s.output) is ∙ here.2.output;
@@ -235,15 +238,23 @@ module _ (OfHost : Scene → Type 0) (tells : Tells) (old now : Scene) (session 
     put_calls : (new : Scene) → ChangesOutput now new → (IsTrue tells.folder → IsAdded WroteOutput [] now new) → (told : TellsStress tells) → StressCalls OfHost old new (past told)
     put_calls new frame added told =
         let here = (turn.told told).2 in
+        let folder : new.folder ≡ now.folder = ap (λ (s : Scene). s.folder) frame in
         let last : Snapshot = snapshot_of new WroteOutput [] in
         elim (added told.folder) [
           | inl told_here ↦ record {
             moments = last ∷ here.moments;
             added = told_here ∙ ap (λ (ms : List Snapshot). last ∷ ms) here.added;
             each = called_on OfHost old here.moments (last ∷ []) (past told) (λ n most. (inr refl, tt)) here.calls;
-            moved = ((λ later. moved_by new (ap (λ (s : Scene). s.folder) frame) told), here.moved);
+            moved = ((λ later. moved_by new folder told), here.moved);
+            readers = own_then old now new here.readers (own_still now new (record { added = last ∷ []; is = told_here; each = (folder, tt) }) folder);
           }
-          | inr left ↦ record { moments = here.moments; added = left.trace ∙ here.added; each = here.calls; moved = here.moved }
+          | inr left ↦ record {
+            moments = here.moments;
+            added = left.trace ∙ here.added;
+            each = here.calls;
+            moved = here.moved;
+            readers = own_then old now new here.readers (own_still now new (record { added = []; is = left.trace; each = tt }) folder);
+          }
         ]
 
     -- a part of it was written
@@ -367,6 +378,7 @@ module _ (OfHost : Scene → Type 0) (tells : Tells) (old now : Scene) (session 
               moved = Each-append (λ m. is_up_to old 0 m ≡ false → BothMoved names m.folder) works.moments.added was.moments
                   (Each-weaker (λ m. BothMoved names m.folder) (λ m. is_up_to old 0 m ≡ false → BothMoved names m.folder) (λ m at later. at) works.moments.added
                   (moved_to (λ m. BothMoved names m.folder) mid.trace new.trace works.moments.added works.moments.is moved_end.0)) was.moved;
+              readers = own_then old mid new was.readers (own_told tells mid new finishes.modes told.folder);
             }
 
         stressed : HasStressed count old new (did_of (past told)) (told_line told)

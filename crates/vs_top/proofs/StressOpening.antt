@@ -33,6 +33,7 @@ use Rattle.vs_top.specs.declared.ending.Ending.TheVariants as ending
 use Rattle.vs_top.proofs.Counting.{only_folder}
 use Rattle.vs_top.proofs.Edits.{only_looked}
 use Rattle.vs_top.proofs.Opening.{did_none, kept_none, no_causes, no_times}
+use Rattle.vs_top.proofs.Readers.{own_told}
 use Rattle.vs_top.proofs.StressEnds.{at_moment}
 use Rattle.vs_top.proofs.StressFolders.{before_line, counts_now, up_to_start}
 
@@ -73,7 +74,7 @@ module _ (OfHost : Scene → Type 0) (tells : Tells) (old new : Scene) (acts : A
             steps = first_count runs.moments.added runs.moments.is (Each-weaker (Inside old (Opens stress_name old.folder)) (λ m. is_up_to old 0 m ≡ true) (up_to_none free) runs.moments.added runs.moments.each);
           };
       last = last;
-      calls = let runs = acts.runs told.folder in record { moments = runs.moments.added; added = runs.moments.is; each = tt; moved = moved_none runs.moments.added runs.moments.each };
+      calls = let runs = acts.runs told.folder in record { moments = runs.moments.added; added = runs.moments.is; each = tt; moved = moved_none runs.moments.added runs.moments.each; readers = own_told tells old new acts.modes told.folder };
     }
 
     output_same : new.output ≡ old.output
@@ -151,6 +152,7 @@ module _ (OfHost : Scene → Type 0) (tells : Tells) (old new : Scene) (acts : A
             cleared = cleared told.folder;
             moved = moved_none runs.moments.added runs.moments.each;
             here = moved told.folder;
+            readers = own_told tells old new acts.modes told.folder;
             newest_at_start = newest_at_start told.folder;
             newest = newest told.folder;
             output = ap (λ (s : Scene). s.output) acts.frame;

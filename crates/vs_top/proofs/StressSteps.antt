@@ -36,6 +36,7 @@ use Rattle.vs_session.specs.Failures.{FailsOnce}
 use Rattle.vs_session.specs.Wholeness.{StaysWhole}
 use Rattle.vs_session.specs.Fits.{Answers}
 use Rattle.vs_session.specs.Made.{ClearsMade, IsLeftBy, LeavesNoneBut, LeavesNoneMade}
+use Rattle.vs_session.specs.Modes.{KeepsMode, KeepsReaders}
 use Rattle.vs_top.specs.Calls.{StepCalls}
 use Rattle.vs_top.specs.History.{Past, any_error, commands_then, marks_of}
 use Rattle.vs_top.specs.Run.{counts_of, FaultHasCause, opened_file}
@@ -44,6 +45,7 @@ use Rattle.vs_top.specs.StressCalls.{EachCalled, HasCalled}
 use Rattle.vs_top.specs.StressTurns.{IsStressTurn, StressTold}
 use Rattle.vs_top.proofs.Counting.{causes_on, counted_works}
 use Rattle.vs_top.proofs.Pushes.{and_not, map_push}
+use Rattle.vs_top.proofs.Readers.{own_then}
 use Rattle.vs_top.proofs.Stepping.{HasStepped}
 use Rattle.vs_top.proofs.StressFolders.{as_many, called_on, stress_syncs, before_line, counts_now, folder_now, folders_on, later_read, stretches_on, stretches_push, told_folder}
 
@@ -220,6 +222,9 @@ module _ (OfHost : Scene → Type 0) (tells : Tells) (old now new : Scene) (sess
         none_left answers.ended.mark.outcome names state instruction answers.ended.found now.folder new.folder plain
         (λ unstored. true≢false (sym (answers.found.unstored unstored) ∙ none_both state instruction answers.ended plain)) clears.left
 
+    reads : KeepsReaders names.file instruction now new
+    reads = subst (λ (n : Names). KeepsReaders n.file instruction now new) turn.keeps.names answers.modes
+
     moved_here : Each (λ m. BothMoved names m.folder) newer
     moved_here = moved_to (λ m. BothMoved names m.folder) now.trace new.trace newer works.moments.is (clears.moved here.here).0
 
@@ -241,9 +246,12 @@ module _ (OfHost : Scene → Type 0) (tells : Tells) (old now new : Scene) (sess
             };
             ends = record { of_host = of_host; later = []; earlier = moments; moments_are = refl; later_are = tt; earlier_are = all_up_to; trace = added };
             holds = record {
+              found = stepped.found;
               fails = subst (λ (n : Names). FailsOnce n state instruction answers.ended now new) turn.keeps.names answers.calls;
               whole = subst (λ (n : Names). StaysWhole n state instruction answers.ended now new) turn.keeps.names answers.whole;
               cleared = clears;
+              readers = reads;
+              mode = subst (λ (n : Names). KeepsMode n.file state instruction answers.ended now new) turn.keeps.names answers.mode;
             };
           }),
       called_on OfHost old here.moments newer past (λ n most. behind_before n (omega (arith, most, as_many old past))) here.calls,
@@ -273,6 +281,7 @@ module _ (OfHost : Scene → Type 0) (tells : Tells) (old now new : Scene) (sess
           moved = Each-append (λ m. is_up_to old 0 m ≡ false → BothMoved names m.folder) newer here.moments
               (Each-weaker (λ m. BothMoved names m.folder) (λ m. is_up_to old 0 m ≡ false → BothMoved names m.folder) (λ m at later. at) newer moved_here) here.moved;
           here = (clears.moved here.here).1;
+          readers = own_then old now new here.readers (λ allowed owner. reads.each allowed owner (λ writes. absurd (true≢false (sym writes ∙ plain))));
           newest_at_start = here.newest_at_start;
           newest = newest told.folder;
           output = works.output ∙ here.output;

@@ -1,5 +1,5 @@
--- Which calls of a run failed, from when on a file that it writes or its backup is whole, and what stays under the names under which files
--- are made before they take their own.
+-- Which calls of a run failed, from when on a file that it writes or its backup is whole, what stays under the names under which files are
+-- made before they take their own, and who may read what is made.
 use Rattle.std.specs.Prelude.{◌≡◌, ◌≢◌, ◌≤◌, ◌+◌, ◌⊎◌, ℕ, List, [], ◌∷◌, ◌++◌, ⊤, length}
 use Rattle.vs_host.specs.Disk.{Name}
 use Rattle.vs_host.specs.Names.{names_of_file}
@@ -16,7 +16,9 @@ use Rattle.vs_session.specs.Opened.{Opened}
 use Rattle.vs_session.specs.Failures.{FailsOnce}
 use Rattle.vs_session.specs.Wholeness.{StaysWhole}
 use Rattle.vs_session.specs.Made.{ClearsMade, IsLeftBy, LeavesNoneBut, LeavesNoneMade}
+use Rattle.vs_session.specs.Modes.{KeepsMode, KeepsReaders}
 use Rattle.vs_top.specs.History.{CommandRun, Past, state_of, written}
+use Rattle.vs_top.specs.Readers.{MakesOwn, MakesReadable}
 use Rattle.vs_top.specs.Run.{Did, closing_line}
 
 -- ---- places in the trace
@@ -62,13 +64,14 @@ pub record HasBetween (P : Scene → Scene → Type 0) (from to : ℕ) (start no
 
 -- ---- the calls of a run
 
--- The file was opened. No call failed, and no file stays under a name under which one was made, also none of an earlier run under those for
--- the swap files.
+-- The file was opened. No call failed, no file stays under a name under which one was made, also none of an earlier run under those for the
+-- swap files, and each file that was made is for its owner alone.
 pub record OpensClean (names : Names) (start opened : Scene) : Type 0 where
   pub last : FailsLast start opened
   pub none : opened.folder_faults ≡ start.folder_faults
   pub cleared : LeavesNoneMade start.folder opened.folder
   pub moved : BothMoved names opened.folder
+  pub readers : MakesOwn start opened
 
 -- So it was, and then the opening reply was written, to n bytes of output.
 pub record HasOpening (names : Names) (n : ℕ) (start now : Scene) : Type 0 where
@@ -76,12 +79,20 @@ pub record HasOpening (names : Names) (n : ℕ) (start now : Scene) : Type 0 whe
   pub clean : OpensClean names start opened
   pub ends : IsFollowed n opened now
 
--- The calls of a command: which of them failed, from when on the file that it writes or its backup is whole, and what it leaves under the
--- names under which files are made.
+-- The calls of a command over the folder that it found: which of them failed, from when on the file that it writes or its backup is whole,
+-- what it leaves under the names under which files are made, which modes these have, and that a written file keeps its own.
 pub record StepCalls (names : Names) (state : SessionState) (command : CommandRun) (old new : Scene) : Type 0 where
+  pub found : command.ended.found ≡ old.folder
   pub fails : FailsOnce names state command.instruction command.ended old new
   pub whole : StaysWhole names state command.instruction command.ended old new
   pub cleared : ClearsMade names state command.instruction command.ended old new
+  pub readers : KeepsReaders names.file command.instruction old new
+  pub mode : KeepsMode names.file state command.instruction command.ended old new
+
+-- Of the calls of the last sync or the removal none failed but the last one, and each file that was made is for its owner alone.
+pub record ClosingCalls (old new : Scene) : Type 0 where
+  pub fails : FailsLast old new
+  pub readers : MakesOwn old new
 
 -- how long the output is where the replies to these commands are whole in it
 abbrev pub long_at : Opened → Scene → Past → ℕ
@@ -110,14 +121,16 @@ pub record MovedSince (names : Names) (n : ℕ) (start now : Scene) : Type 0 whe
 
 -- Of the opening no call failed, where its reply was written; of each command as its mark says; and of the last sync or the removal
 -- none but the last one. From the opening reply on, at each moment, no file stands under a name under which a swap file is made; and in the
--- end none under another name under which files are made that had none at the start, unless a command left it.
+-- end none under another name under which files are made that had none at the start, unless a command left it. At each moment each file that
+-- was made is for its owner alone, or has a mode of the file, where that was there for each command that writes files.
 pub record CallsAsMarked (file : Opened) (old new : Scene) (did : Did) : Type 0 where
   pub opening : long_at file old [] ≤ length new.output → HasOpening (names_of_file file.name) (long_at file old []) old new
   pub commands : EachCommand file old new did.past
   pub closing : did.closing ≢ NotBegun
-      → HasBetween FailsLast (long_at file old did.past) (long_at file old did.past + length (closing_line did.closing)) old new
+      → HasBetween ClosingCalls (long_at file old did.past) (long_at file old did.past + length (closing_line did.closing)) old new
   pub cleared : long_at file old [] ≤ length new.output → LeavesNoneBut (SomeLeft file did.past) old.folder new.folder
   pub moved : MovedSince (names_of_file file.name) (long_at file old []) old new
+  pub readers : MakesReadable file.name did.past old new
 
 -- What is known between two commands, however the trace goes on.
 pub record CallsSoFar (file : Opened) (start now : Scene) (past : Past) : Type 0 where
@@ -127,3 +140,4 @@ pub record CallsSoFar (file : Opened) (start now : Scene) (past : Past) : Type 0
   pub cleared : LeavesNoneBut (SomeLeft file past) start.folder now.folder
   pub moved : MovedSince (names_of_file file.name) (long_at file start []) start now
   pub here : BothMoved (names_of_file file.name) now.folder
+  pub readers : MakesReadable file.name past start now

@@ -1,11 +1,12 @@
 -- What a run of two sessions promises: one row for each ending, which says what it answered, which call failed, what it leaves of a
--- file that was opened alone, and what of the files; and for each session what a run of it alone does, on the names of its family.
-use Rattle.std.specs.Prelude.{ℕ, Bool, true, false, List, ◌∷◌, [], ◌≡◌, ◌<◌, ◌≤◌, ◌+◌, ◌⊎◌, ◌++◌, ⊤, All, map, length, take, IsTrue, IsSomeAnd, codes}
+-- file that was opened alone, and what of the files; who may read what is made; and for each session what a run of it alone does, on the names of its family.
+use Rattle.std.specs.Prelude.{ℕ, Bool, true, false, List, ◌∷◌, [], ◌≡◌, ◌<◌, ◌≤◌, ◌+◌, ◌⊎◌, ◌++◌, ⊤, All, map, length, take, IsTrue, IsSome, IsSomeAnd, codes}
 use Rattle.std.specs.declared.option.Option.{Option}
-use Rattle.vs_host.specs.Disk.{Disk, Name}
+use Rattle.vs_host.specs.Disk.{Disk, Mode, Name, mode_in, owner_mode}
 use Rattle.vs_host.specs.Names.{is_allowed, names_of_file}
 use Rattle.vs_host.specs.Trace.{GoesOn}
 use Rattle.vs_host.specs.World.{Tells, Scene, content_of}
+use Rattle.vs_disk.specs.Modes.{HasModes, IsOf}
 use Rattle.vs_disk.specs.Names.{SameAt}
 use Rattle.vs_disk.specs.Runs.{Looks}
 use Rattle.vs_family.specs.Family.{clash, is_of_family}
@@ -26,8 +27,9 @@ use Rattle.vs_session.specs.Open.{PassesLimit}
 use Rattle.vs_session.specs.Opened.{Opened}
 use Rattle.vs_top.specs.Run.{TellsRun, AnswersNone, FaultHasCause, FileFits, IsBarred, KeepsSwap, counts_of, opened_file}
 use Rattle.vs_top.specs.Promise.{row}
+use Rattle.vs_top.specs.Readers.{EachWrites, MakesOnly}
 use Rattle.vs_top.specs.PairHistory.{PairAnswer, Answered, Left, AfterQuit, OfNone, Preserved, AnswerList, BothFiles, MayAnswer, WereSynced}
-use Rattle.vs_top.specs.PairHistory.{closing_under, file_for, has_error, marks_of_both, opening_for, reply_after, stage_before, stage_of, stage_opened}
+use Rattle.vs_top.specs.PairHistory.{closing_under, file_for, has_error, marks_of_both, opening_for, past_of, reply_after, stage_before, stage_of, stage_opened}
 use Rattle.vs_top.specs.PairHistory.{stage_under, written_both}
 use Rattle.vs_top.specs.PairScript.{IsLastTaken, IsTranscript, OnlyLines, SessionEnd, Transcript, answers_of, lines_then}
 use Rattle.vs_top.specs.Tags.{tagged_for}
@@ -250,6 +252,17 @@ LeavesOthers one two old new =
     (inside : Name → Bool) → AreOfNeither one two inside
     → GoesOn (λ m. SameAt inside old.folder m.folder) old.trace new.trace × SameAt inside old.folder new.folder
 
+-- ---- who may read
+
+-- Each file that is made is for its owner alone, or has a mode that the file of a session may have at the start, where one of its commands
+-- writes files. Each that does found the file there.
+abbrev pub MakesReadableBoth : BothFiles → AnswerList → Scene → Scene → Type 0
+MakesReadableBoth files answers start now =
+    (allowed : Mode → Bool) → IsOf allowed owner_mode
+    → ((session : Which) → let name : Name = (file_for session files).name in
+    EachWrites (λ found. IsSome (mode_in found name) × HasModes allowed name start.folder) (past_of session answers))
+    → MakesOnly allowed start now
+
 -- ---- times
 
 -- these times are those of the marks, in order, with others between them
@@ -291,6 +304,7 @@ pub record HasRunBoth (one two : List ℕ) (old new : Scene) (end : Ending) (mar
   pub first : ¬ EitherHasSwap one two old.folder → IsSafeBeside which.One (files_in old one two) old new did
   pub second : ¬ EitherHasSwap one two old.folder → IsSafeBeside which.Two (files_in old one two) old new did
   pub others : LeavesOthers one two old new
+  pub readers : MakesReadableBoth (files_in old one two) (answers_of did.transcript) old new
   pub failed : (row_both end).last old new
   pub left : did.reach ≡ BeforeOpening → (row_both end).left (opened_file old one) old new
 

@@ -26,6 +26,7 @@ use Rattle.vs_session.specs.Opened.{Opened}
 use Rattle.vs_multi.specs.declared.multi.Multi.{Multi}
 use Rattle.vs_multi.specs.Multi.{FitsBoth, session_of}
 use Rattle.vs_multi.specs.Opening.{BothStandOpen}
+use Rattle.vs_top.specs.Readers.{MakesOwn}
 use Rattle.vs_top.specs.Run.{TellsRun, FaultHasCause, OnlyFolder, counts_of}
 use Rattle.vs_tagged.specs.Tagged.{WritesTagged}
 use Rattle.vs_top.specs.Tags.{tagged_for}
@@ -34,7 +35,7 @@ use Rattle.vs_top.specs.PairHistory.{PairAnswer, Answered, Left, AfterQuit, OfNo
 use Rattle.vs_top.specs.PairHistory.{marks_of_both, stage_of, state_for, written_both}
 use Rattle.vs_top.specs.PairScript.{AnswersCommand, Comes, IsLastTaken, IsTranscript, FeedPlace, Reads, Over, ScriptEnd, SessionEnd, Source}
 use Rattle.vs_top.specs.PairScript.{Transcript, answers_of, feed_place, taking}
-use Rattle.vs_top.specs.PairPromise.{BothFit, EitherHasSwap, IsTimedBoth, LeavesOthers, files_in, party_for}
+use Rattle.vs_top.specs.PairPromise.{BothFit, EitherHasSwap, IsTimedBoth, LeavesOthers, MakesReadableBoth, files_in, party_for}
 use Rattle.vs_top.specs.declared.ending.Ending.{Ending}
 use Rattle.vs_top.specs.declared.pair.Sessions.{Sessions}
 
@@ -97,6 +98,7 @@ pub record ToldPair (one two : List ℕ) (old now : Scene) (multi : Multi) (mark
       (state_for session (files_in old one two) (answers_of transcript)) (stage_of session (files_in old one two) (answers_of transcript)) now.folder
   pub counted : AreCounted old now
   pub others : LeavesOthers one two old now
+  pub readers : MakesReadableBoth (files_in old one two) (answers_of transcript) old now
 
 -- ---- the places in the script
 
@@ -202,6 +204,7 @@ pub record ToldOpenPair (one two : List ℕ) (old now : Scene) : Type 0 where
       HasBegunAmong (others_of party) party.names (document_at old two) old now
   pub counted : IsCounted output_count old now
   pub others : LeavesOthers one two old now
+  pub readers : MakesOwn old now
 
 -- Two sessions have just opened their files. The script is as it was.
 pub record OpensPair (tells : Tells) (one two : List ℕ) (old now : Scene) (multi : Multi) : Type 0 where

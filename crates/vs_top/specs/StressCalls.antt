@@ -1,4 +1,4 @@
--- Which calls of the stress mode failed, and that no file stands under a name under which a swap file is made.
+-- Which calls of the stress mode failed, that no file stands under a name under which a swap file is made, and who may read what is made.
 use Rattle.std.specs.Prelude.{◌≡◌, ℕ, ◌+◌, true, false, List, [], ◌∷◌, ◌++◌, ⊤, length}
 use Rattle.vs_host.specs.Names.{names_of_file}
 use Rattle.vs_host.specs.Trace.{Snapshot, Each}
@@ -6,6 +6,7 @@ use Rattle.vs_host.specs.World.{Scene}
 use Rattle.vs_pair.specs.Steps.{BothMoved}
 use Rattle.vs_top.specs.Calls.{StepCalls}
 use Rattle.vs_top.specs.History.{Past}
+use Rattle.vs_top.specs.Readers.{MakesOwn}
 use Rattle.vs_top.specs.Stress.{IsBehind, is_up_to, stress_name, stress_state}
 
 -- A host of the type between two commands: its trace has the moments of the first so many and no other.
@@ -33,9 +34,10 @@ EachCalled OfHost start moments (last ∷ past) =
     HasCalled OfHost (StepCalls (names_of_file stress_name) (stress_state start past) last) start moments (length past) × EachCalled OfHost start moments past
 
 -- So it is at the moments from one scene to another. At each of them, once a command has begun, no image has a file under a name under which
--- a swap file is made.
+-- a swap file is made, and each file that was made is for its owner alone.
 pub record StressCalls (OfHost : Scene → Type 0) (start now : Scene) (past : Past) : Type 0 where
   pub moments : List Snapshot
   pub added : now.trace ≡ moments ++ start.trace
   pub each : EachCalled OfHost start moments past
   pub moved : Each (λ m. is_up_to start 0 m ≡ false → BothMoved (names_of_file stress_name) m.folder) moments
+  pub readers : MakesOwn start now

@@ -15,6 +15,7 @@ use Rattle.vs_session.specs.Fits.{Fits}
 use Rattle.vs_session.specs.Made.{LeavesNoneMade}
 use Rattle.vs_stress.specs.Commands.{stress_commands}
 use Rattle.vs_top.specs.History.{Past, any_error, commands_then}
+use Rattle.vs_top.specs.Readers.{MakesOwn}
 use Rattle.vs_top.specs.Run.{KeepsMarks, opened_file}
 use Rattle.vs_top.specs.Stress.{TellsStress, HasStretches, IsBeforeLine, is_up_to, stress_history, stress_name, stress_state, stress_document, stress_turns}
 use Rattle.vs_top.specs.StressCalls.{EachCalled}
@@ -35,6 +36,7 @@ pub record StressTold (OfHost : Scene → Type 0) (old now : Scene) (session : S
   pub cleared : LeavesNoneMade old.folder now.folder
   pub moved : Each (λ m. is_up_to old 0 m ≡ false → BothMoved (names_of_file stress_name) m.folder) moments
   pub here : BothMoved (names_of_file stress_name) now.folder
+  pub readers : MakesOwn old now
   pub newest_at_start : HasNewest old
   pub newest : HasNewest now
   pub output : now.output ≡ old.output

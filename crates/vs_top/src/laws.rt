@@ -1,6 +1,8 @@
-// Laws of a run that nothing hinders. They do nothing: their contracts are the laws.
-ghost use Rattle.std.specs.Prelude.{◌≡◌, ◌≢◌, ◌⊎◌, ℕ, List, [], ◌++◌, All, IsTrue};
+// Laws of runs. They do nothing: their contracts are the laws.
+ghost use Rattle.std.specs.Prelude.{◌≡◌, ◌≢◌, ◌⊎◌, ℕ, List, [], ◌++◌, All, Some, IsSome, IsTrue};
+ghost use Rattle.vs_host.specs.Disk.{mode_in};
 ghost use Rattle.vs_host.specs.Names.{names_of_file};
+ghost use Rattle.vs_host.specs.Trace.{GoesOn};
 ghost use Rattle.vs_host.specs.World.{Scene, Tells};
 ghost use Rattle.vs_text.specs.Text.{lines_of};
 ghost use Rattle.vs_machine.specs.declared.command.Mark.{Mark};
@@ -12,7 +14,8 @@ ghost use Rattle.vs_top.specs.Forms.{Performs};
 ghost use Rattle.vs_top.specs.PairHistory.{AnswerList, BothFiles, own_lines, written_both};
 ghost use Rattle.vs_top.specs.PairPromise.{AllWhole, HasRunBoth, files_in};
 ghost use Rattle.vs_top.specs.PairScript.{answers_of};
-ghost use Rattle.vs_top.specs.Promise.{RunsEdit, RunsStress};
+ghost use Rattle.vs_top.specs.Promise.{HasRun, RunsEdit, RunsStress};
+ghost use Rattle.vs_top.specs.Readers.{EachWrites, IsMadeLike};
 ghost use Rattle.vs_top.specs.Stress.{IsSceneOf};
 ghost use Rattle.vs_top.specs.Tags.{prefix_of};
 ghost use Rattle.vs_top.specs.Unhindered.{IsStressUnhindered, IsThrough, IsThroughMark, IsUnhindered};
@@ -37,6 +40,14 @@ pub fn stress_through<H: Host>()
         → IsStressUnhindered H.tells old new → IsThrough end }
     ensures marks { (count : ℕ) (old new : Scene) (end : Ending) (marks : List Mark) → RunsStress (IsSceneOf H.scene) H.tells count old new end marks
         → IsStressUnhindered H.tells old new → All IsThroughMark marks }
+{}
+
+/// What an `edit` makes over a file that each of its `w` and `wundo` finds has the mode of that file, or is for its owner alone: at each
+/// moment, whatever a stop leaves.
+pub fn edit_readers()
+    ensures { (bits : ℕ) (name : List ℕ) (old new : Scene) (end : Ending) (marks : List Mark) (ran : HasRun name old new end marks)
+        → old.folder.pending ≡ [] → mode_in old.folder name ≡ Some bits → EachWrites (λ found. IsSome (mode_in found name)) ran.did.past
+        → GoesOn (λ m. IsMadeLike bits old.folder m.folder) old.trace new.trace × IsMadeLike bits old.folder new.folder }
 {}
 
 /// What a `pair` writes for a session is read back from its output under the prefix of that session, and nothing else: its opening reply,

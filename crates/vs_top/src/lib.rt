@@ -12,5 +12,5 @@ mod tagged;
 
 pub use ending::Ending;
 pub use form::Mode;
-pub use laws::{edit_through, mode_due, pair_output, stress_through};
+pub use laws::{edit_readers, edit_through, mode_due, pair_output, stress_through};
 pub use runs::{Report, run};
