@@ -13,7 +13,6 @@ mod Edits
 mod MadeLike
 mod Forms
 mod Due
-mod StressFolders
 pub mod StressSteps
 pub mod StressEnds
 pub mod StressClosing

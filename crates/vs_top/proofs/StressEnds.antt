@@ -1,17 +1,16 @@
 -- The opening and the end of the stress mode, and what it answered where it stops.
-use Rattle.std.proofs.Common.{◌≡◌, ◌⊎◌, inl, inr, ℕ, ◌≤◌, ◌<◌, ◌+◌, Bool, true, false, not, if◌then◌else◌, List, [], ◌∷◌, ◌++◌, length, take, map, All, None, IsTrue, Ok, Err, IsErrAnd, refl, sym, ap, subst, ◌∙◌, append_assoc, append-nil, arith}
+use Rattle.std.proofs.Common.{◌≡◌, inl, inr, ℕ, ◌≤◌, ◌<◌, ◌+◌, Bool, true, false, not, if◌then◌else◌, List, [], ◌∷◌, ◌++◌, length, take, map, All, None, IsTrue, Ok, Err, IsErrAnd, refl, sym, ap, subst, ◌∙◌, append_assoc, append-nil, arith}
 use Rattle.std.specs.declared.result.Result.{Result}
-use Rattle.std.proofs.lemmas.Bool.Decides.{leb_tells}
 use Rattle.std.proofs.lemmas.List.{length-append, take_all}
 use Rattle.vs_faults.specs.Faults.{HasRisen}
 use Rattle.vs_faults.proofs.Causes.{risen_after}
 use Rattle.vs_host.specs.Disk.{Disk}
 use Rattle.vs_host.specs.Names.{names_of_file}
 use Rattle.vs_host.specs.Trace.{WroteOutput, Snapshot, Each, GoesOn}
-use Rattle.vs_host.specs.World.{Tells, Scene, HasNewest, ChangesOutput, ReadsFolder, snapshot_of}
+use Rattle.vs_host.specs.World.{Tells, Scene, ChangesOutput, ReadsFolder, snapshot_of}
 use Rattle.vs_host.specs.declared.names.Names.{Names}
-use Rattle.vs_disk.specs.Runs.{Inside}
-use Rattle.vs_disk.proofs.Runs.{Each-append, Each-weaker}
+use Rattle.vs_disk.specs.Runs.{FailsLast, Inside, Quiet}
+use Rattle.vs_disk.proofs.Runs.{Each-append, Each-weaker, goes_then, goes_weaker}
 use Rattle.vs_disk.proofs.Others.{same_then}
 use Rattle.vs_pair.specs.Pair.{is_foreign}
 use Rattle.vs_pair.specs.Steps.{BothMoved, IsFresh}
@@ -21,7 +20,7 @@ use Rattle.vs_text.specs.Documents.{Document}
 use Rattle.vs_safety.specs.Texts.{Sync, IsBetween, Recovers, RecoversOrNone, recoverable}
 use Rattle.vs_safety.specs.Turns.{NotBegun, Turn}
 use Rattle.vs_safety.specs.History.{syncs_of}
-use Rattle.vs_safety.specs.Safety.{IsAdded, Spares, Works}
+use Rattle.vs_safety.specs.Safety.{IsAdded, Spares, Works, Writes}
 use Rattle.vs_safety.specs.Causes.{IsCounted, RoseLast, folder_count, output_count}
 use Rattle.vs_safety.proofs.Causes.{rose_at, rose_last}
 use Rattle.vs_safety.proofs.Texts.{between_recovers}
@@ -32,23 +31,20 @@ use Rattle.vs_session.specs.Session.{SessionState}
 use Rattle.vs_session.specs.Calls.{Finishes}
 use Rattle.vs_session.specs.Fits.{Fits, names_of}
 use Rattle.vs_session.specs.Made.{LeavesNoneMade, StaysMoved}
-use Rattle.vs_desk.proofs.Left.{moved_to}
 use Rattle.vs_stress.specs.Commands.{stress_commands}
 use Rattle.vs_top.specs.Ending.{ending_in}
 use Rattle.vs_top.specs.History.{Past, any_error}
 use Rattle.vs_top.specs.Promise.{HasStress, RunsStress, row}
-use Rattle.vs_top.specs.Readers.{MakesOwn}
 use Rattle.vs_top.specs.Run.{Did, FaultHasCause, KeepsMarks, IsTimed, OnlyFolder, counts_of, opened_file}
-use Rattle.vs_top.specs.Stress.{TellsStress, HasStressed, HasStretches, IsBeforeLine, IsBehind, IsStressMoment, IsStressSafe, StressEnds, folder_after, is_up_to, stress_history, stress_line, stress_name, stress_state, stress_document, stress_turns}
-use Rattle.vs_top.specs.StressCalls.{StressCalls}
+use Rattle.vs_top.specs.Stress.{TellsStress, HasStressed, IsBeforeLine, IsStressMoment, IsStressSafe, StressEnds, WritesThen, stress_history, stress_line, stress_name, stress_state, stress_document, stress_turns}
+use Rattle.vs_top.specs.StressCalls.{HasRunTo, StressCalls}
 use Rattle.vs_top.specs.StressTurns.{IsStressTurn}
 use Rattle.vs_top.specs.declared.ending.Ending.{Ending}
 use Rattle.vs_top.specs.declared.ending.Ending.TheVariants as ending
 use Rattle.vs_top.proofs.Counting.{all_counted, causes_on, only_folder, only_output, only_then}
 use Rattle.vs_top.proofs.Pushes.{flip_clean}
 use Rattle.vs_top.proofs.Readers.{own_still, own_then, own_told}
-use Rattle.vs_top.proofs.StressSteps.{commands_are}
-use Rattle.vs_top.proofs.StressFolders.{as_many, called_on, stress_syncs, folders_on, later_read, later_written, stretches_later, stretches_on, told_folder}
+use Rattle.vs_top.proofs.StressSteps.{commands_are, inside_any, stress_syncs}
 
 -- ---- what is known, as the end of it
 
@@ -76,12 +72,12 @@ module _ (OfHost : Scene → Type 0) (tells : Tells) (old now : Scene) (session 
       let turns = stress_turns old here.0 in
       Each-weaker (IsBeforeLine names old (stress_document old) turns) (IsStressMoment names old (stress_document old) turns line) (λ m is. at_moment old (stress_document old) turns line m is) here.2.moments here.2.safe
 
-  safe_now : (told : TellsStress tells) (line : List ℕ) → let here = turn.told told in IsStressSafe OfHost names old now (stress_document old) (stress_turns old here.0) line
+  safe_now : (told : TellsStress tells) (line : List ℕ) → let here = turn.told told in IsStressSafe names old now (stress_document old) (stress_turns old here.0) line
   safe_now told line =
-      let here = turn.told told in record { moments = here.2.moments; added = here.2.added; safe = moments_now told line; spared = here.2.spared; steps = here.2.steps }
+      let here = turn.told told in record { moments = here.2.moments; added = here.2.added; safe = moments_now told line; spared = here.2.spared }
 
   -- the run stops before it writes the line
-  pub stops : (count : ℕ) (end : Ending) → (told : TellsStress tells) → (row end).stressed count old now marks (did_of (turn.told told).0) → (row end).last old now → HasStress OfHost count old now end marks
+  pub stops : (count : ℕ) (end : Ending) → (told : TellsStress tells) → (row end).stressed (HasRunTo OfHost old (turn.told told).0) count old now marks (did_of (turn.told told).0) → (row end).last old now → HasStress OfHost count old now end marks
   stops count end told answered last =
       let here = turn.told told in
       record {
@@ -90,13 +86,13 @@ module _ (OfHost : Scene → Type 0) (tells : Tells) (old now : Scene) (session 
         answered = answered;
         safe = λ free. safe_now told (stress_line count old here.0);
         last = last;
-        calls = record { moments = here.2.moments; added = here.2.added; each = here.2.calls; moved = here.2.moved; readers = here.2.readers };
+        calls = here.2.calls;
       }
 
   -- there is no memory
   pub no_memory : (count : ℕ) (rest : List Instruction) → stress_commands count ≡ commands ++ rest → RunsStress OfHost tells count old now ending.NoMemory marks
   no_memory count rest is = record {
-    told = λ told. stops count ending.NoMemory told (record { rest = rest; first = is ∙ sym (ap (λ (l : List Instruction). l ++ rest) (turn.told told).1) ∙ sym (commands_are (turn.told told).0 rest); output = (turn.told told).2.output; closing = refl; kept = inr (session, turn.keeps.names, (turn.told told).2.fits); cleared = (turn.told told).2.cleared }) tt;
+    told = λ told. stops count ending.NoMemory told (record { rest = rest; first = is ∙ sym (ap (λ (l : List Instruction). l ++ rest) (turn.told told).1) ∙ sym (commands_are (turn.told told).0 rest); output = (turn.told told).2.output; closing = refl; kept = inr ((turn.told told).2.ran, (session, turn.keeps.names, (turn.told told).2.fits)); cleared = (turn.told told).2.cleared }) tt;
     swap = λ told same. absurd (cc);
     barred = λ told has. absurd (turn.keeps.free told has);
     file = λ told. tt;
@@ -111,7 +107,7 @@ module _ (OfHost : Scene → Type 0) (tells : Tells) (old now : Scene) (session 
   no_summary count was all rose later last = record {
     told = λ told.
         let here = turn.told told in
-        stops count ending.FolderFault told (inr (inl (record { all = here.1 ∙ all; output = here.2.output ∙ sym (append-nil old.output); cleared = here.2.cleared; moved = here.2.here }))) (full_last old now here.2.moments here.2.added (last told.folder));
+        stops count ending.FolderFault told (inr (inl (record { all = here.1 ∙ all; ended = now; ran = here.2.ran; closes = refl; output = here.2.output ∙ sym (append-nil old.output); cleared = here.2.cleared; moved = here.2.here }))) (full_last old now here.2.moments here.2.added (last told.folder));
     swap = λ told same. absurd (cc);
     barred = λ told has. absurd (turn.keeps.free told has);
     file = λ told. tt;
@@ -138,15 +134,10 @@ module _ (OfHost : Scene → Type 0) (tells : Tells) (old now : Scene) (session 
             added = ap (λ (s : Scene). s.trace) is ∙ here.2.added;
             safe = here.2.safe;
             spared = subst (λ (s : Scene). Rattle.vs_disk.specs.Names.SameAt (is_foreign names) old.folder s.folder) (sym is) here.2.spared;
-            steps = subst (λ (s : Scene). HasStretches OfHost names old here.2.moments (stress_turns old here.0) s.folder_faults) (sym is) here.2.steps;
-            of_host = subst OfHost (sym is) here.2.of_host;
-            calls = here.2.calls;
+            ran = subst (λ (s : Scene). HasRunTo OfHost old here.0 s) (sym is) here.2.ran;
+            calls = subst (λ (s : Scene). StressCalls old s) (sym is) here.2.calls;
             cleared = subst (λ (s : Scene). LeavesNoneMade old.folder s.folder) (sym is) here.2.cleared;
-            moved = here.2.moved;
             here = subst (λ (s : Scene). BothMoved names s.folder) (sym is) here.2.here;
-            readers = subst (λ (s : Scene). MakesOwn old s) (sym is) here.2.readers;
-            newest_at_start = here.2.newest_at_start;
-            newest = subst HasNewest (sym is) here.2.newest;
             output = ap (λ (s : Scene). s.output) is ∙ here.2.output;
             answers = ap (λ (s : Scene). length s.answers) is ∙ here.2.answers;
             counted = subst (λ (s : Scene). IsCounted output_count old s) (sym is) here.2.counted;
@@ -186,7 +177,7 @@ module _ (OfHost : Scene → Type 0) (tells : Tells) (old now : Scene) (session 
 
     -- what is known of the folder after the write of the line, or of a part of it
     put_safe : (new : Scene) → ChangesOutput now new → (IsTrue tells.folder → IsAdded WroteOutput [] now new) → (told : TellsStress tells) → (n : ℕ) → new.output ≡ old.output ++ take n (told_line told)
-        → IsStressSafe OfHost names old new (stress_document old) (turns told) (told_line told)
+        → IsStressSafe names old new (stress_document old) (turns told) (told_line told)
     put_safe new frame added told n output =
         let here = (turn.told told).2 in
         let syncs : List Sync = syncs_of (stress_history old (past told)) in
@@ -194,8 +185,6 @@ module _ (OfHost : Scene → Type 0) (tells : Tells) (old now : Scene) (session 
         let answers : length new.answers ≡ length old.answers + length (turns told) = ap (λ (s : Scene). length s.answers) frame ∙ here.answers in
         let between : IsBetween names syncs now.folder = subst (λ (n : Names). IsBetween n syncs now.folder) turn.keeps.names (fits_between session.text now.folder _ _ here.fits.stands.text) in
         let spared = subst (λ (d : Disk). Rattle.vs_disk.specs.Names.SameAt (is_foreign names) old.folder d) (sym folder) here.spared in
-        let steps : HasStretches OfHost names old here.moments (turns told) new.folder_faults =
-        subst (λ (n : ℕ). HasStretches OfHost names old here.moments (turns told) n) (sym (ap (λ (s : Scene). s.folder_faults) frame)) here.steps in
         let last : Snapshot = snapshot_of new WroteOutput [] in
         let moment : IsStressMoment names old (stress_document old) (turns told) (told_line told) last = record {
           spared = spared;
@@ -206,25 +195,14 @@ module _ (OfHost : Scene → Type 0) (tells : Tells) (old now : Scene) (session 
                 (subst (λ (d : Disk). Recovers names (recoverable syncs) d) (sym folder) (between_recovers names syncs now.folder between));
           })));
         } in
-        let same : (k : ℕ) → 0 ≤ k → k ≤ 0 + length (turns told) → folder_after old here.moments k ≡ folder_after old (last ∷ here.moments) k = λ k least most.
-        sym (folders_on old here.moments k (last ∷ []) (
-          elim (leb_tells (length (turns told)) k) [
-            | inl end ↦
-                let is : k ≡ length (turns told) = omega (arith, most, end.1) in
-                inr (folder ∙ sym (told_folder OfHost old now session marks clean (past told) here) ∙ ap (λ (k : ℕ). folder_after old here.moments k) (sym is))
-            | inr earlier ↦ inl (later_read old k last (omega (arith, answers, earlier.1)))
-          ],
-          tt,
-        )) in
         elim (added told.folder) [
           | inl told_here ↦ record {
             moments = last ∷ here.moments;
             added = told_here ∙ ap (λ (ms : List Snapshot). last ∷ ms) here.added;
             safe = (moment, moments_now told (told_line told));
             spared = spared;
-            steps = stretches_on OfHost names old here.moments (last ∷ []) (turns told) new.folder_faults (λ n most. (inr refl, tt)) same steps;
           }
-          | inr left ↦ record { moments = here.moments; added = left.trace ∙ here.added; safe = moments_now told (told_line told); spared = spared; steps = steps }
+          | inr left ↦ record { moments = here.moments; added = left.trace ∙ here.added; safe = moments_now told (told_line told); spared = spared }
         ]
 
     -- under the names under which files are made it leaves none
@@ -234,28 +212,25 @@ module _ (OfHost : Scene → Type 0) (tells : Tells) (old now : Scene) (session 
     moved_by : (new : Scene) → new.folder ≡ now.folder → (told : TellsStress tells) → BothMoved names new.folder
     moved_by new same told = subst (λ (d : Disk). BothMoved names d) (sym same) (turn.told told).2.here
 
-    -- and of the calls of the commands
-    put_calls : (new : Scene) → ChangesOutput now new → (IsTrue tells.folder → IsAdded WroteOutput [] now new) → (told : TellsStress tells) → StressCalls OfHost old new (past told)
+    -- and of the calls
+    put_calls : (new : Scene) → ChangesOutput now new → (IsTrue tells.folder → IsAdded WroteOutput [] now new) → (told : TellsStress tells) → StressCalls old new
     put_calls new frame added told =
         let here = (turn.told told).2 in
         let folder : new.folder ≡ now.folder = ap (λ (s : Scene). s.folder) frame in
-        let last : Snapshot = snapshot_of new WroteOutput [] in
-        elim (added told.folder) [
-          | inl told_here ↦ record {
-            moments = last ∷ here.moments;
-            added = told_here ∙ ap (λ (ms : List Snapshot). last ∷ ms) here.added;
-            each = called_on OfHost old here.moments (last ∷ []) (past told) (λ n most. (inr refl, tt)) here.calls;
-            moved = ((λ later. moved_by new folder told), here.moved);
-            readers = own_then old now new here.readers (own_still now new (record { added = last ∷ []; is = told_here; each = (folder, tt) }) folder);
-          }
-          | inr left ↦ record {
-            moments = here.moments;
-            added = left.trace ∙ here.added;
-            each = here.calls;
-            moved = here.moved;
-            readers = own_then old now new here.readers (own_still now new (record { added = []; is = left.trace; each = tt }) folder);
-          }
-        ]
+        let goes : GoesOn (λ m. m.folder ≡ now.folder) now.trace new.trace = elim (added told.folder) [
+          | inl told_here ↦ record { added = snapshot_of new WroteOutput [] ∷ []; is = told_here; each = (folder, tt) }
+          | inr left ↦ record { added = []; is = left.trace; each = tt }
+        ] in
+        record {
+          moved = goes_then (λ m. length old.answers < m.answered → BothMoved names m.folder) old.trace now.trace new.trace here.calls.moved
+              (goes_weaker (λ m. m.folder ≡ now.folder) (λ m. length old.answers < m.answered → BothMoved names m.folder)
+              (λ m same later. subst (λ (d : Disk). BothMoved names d) (sym same) here.here) now.trace new.trace goes);
+          readers = own_then old now new here.calls.readers (own_still now new goes folder);
+        }
+
+    -- the first n bytes of it
+    put_writes : (new : Scene) → ChangesOutput now new → (IsTrue tells.folder → IsAdded WroteOutput [] now new) → (told : TellsStress tells) → (n : ℕ) → new.output ≡ now.output ++ take n (told_line told) → Writes n (told_line told) now new
+    put_writes new frame added told n output = record { output = output; folder = ap (λ (s : Scene). s.folder) frame; faults = ap (λ (s : Scene). s.folder_faults) frame; added = added told.folder }
 
     -- a part of it was written
     pub line_cut : (new : Scene) → ChangesOutput now new → (IsTrue tells.folder → IsAdded WroteOutput [] now new) → (IsTrue tells.output → (n : ℕ) × (new.output ≡ now.output ++ take n line)) → HasRisen now.out_faults new.out_faults
@@ -267,11 +242,12 @@ module _ (OfHost : Scene → Type 0) (tells : Tells) (old now : Scene) (session 
           told = λ told.
               let here = turn.told told in
               let cut = wrote told.output in
-              let output : new.output ≡ old.output ++ take cut.0 (told_line told) = cut.1 ∙ ap (λ (l : List ℕ). l ++ take cut.0 line) here.2.output ∙ ap (λ (l : List ℕ). old.output ++ take cut.0 l) (line_is told) in
+              let wrote_now : new.output ≡ now.output ++ take cut.0 (told_line told) = cut.1 ∙ ap (λ (l : List ℕ). now.output ++ take cut.0 l) (line_is told) in
+              let output : new.output ≡ old.output ++ take cut.0 (told_line told) = wrote_now ∙ ap (λ (l : List ℕ). l ++ take cut.0 (told_line told)) here.2.output in
               record {
                 did = did_of here.0;
                 kept = here.2.kept;
-                answered = (cut.0, record { all = here.1 ∙ all; output = output; cleared = cleared_by new (ap (λ (s : Scene). s.folder) frame) told; moved = moved_by new (ap (λ (s : Scene). s.folder) frame) told });
+                answered = (cut.0, record { all = here.1 ∙ all; ended = now; ran = here.2.ran; closes = put_writes new frame added told cut.0 wrote_now; output = output; cleared = cleared_by new (ap (λ (s : Scene). s.folder) frame) told; moved = moved_by new (ap (λ (s : Scene). s.folder) frame) told });
                 safe = λ free. put_safe new frame added told cut.0 output;
                 last = rose_at output_count old now new WroteOutput [] (added told.folder) rose here.2.counted;
                 calls = put_calls new frame added told;
@@ -310,14 +286,17 @@ module _ (OfHost : Scene → Type 0) (tells : Tells) (old now : Scene) (session 
         abbrev syncs : List Sync
         syncs = syncs_of (stress_history old (past told))
 
+        all_line : take (length (told_line told)) (told_line told) ≡ told_line told
+        all_line = take_all (length (told_line told)) (told_line told) (omega arith)
+
+        mid_now : mid.output ≡ now.output ++ told_line told
+        mid_now = wrote told.output ∙ ap (λ (l : List ℕ). now.output ++ l) (line_is told)
+
         mid_output : mid.output ≡ old.output ++ told_line told
-        mid_output = wrote told.output ∙ ap (λ (l : List ℕ). l ++ line) (turn.told told).2.output ∙ ap (λ (l : List ℕ). old.output ++ l) (line_is told)
+        mid_output = mid_now ∙ ap (λ (l : List ℕ). l ++ told_line told) (turn.told told).2.output
 
-        long_line : length old.output < length (old.output ++ told_line told)
-        long_line = omega (arith, some, ap (λ (l : List ℕ). length l) (line_is told), length-append old.output (told_line told))
-
-        mid_safe : IsStressSafe OfHost names old mid (stress_document old) (turns told) (told_line told)
-        mid_safe = put_safe mid frame added told (length (told_line told)) (mid_output ∙ ap (λ (l : List ℕ). old.output ++ l) (sym (take_all (length (told_line told)) (told_line told) (omega arith))))
+        mid_safe : IsStressSafe names old mid (stress_document old) (turns told) (told_line told)
+        mid_safe = put_safe mid frame added told (length (told_line told)) (mid_output ∙ ap (λ (l : List ℕ). old.output ++ l) (sym all_line))
 
         works : Works names None (RecoversOrNone names (recoverable syncs)) mid new
         works =
@@ -338,18 +317,7 @@ module _ (OfHost : Scene → Type 0) (tells : Tells) (old now : Scene) (session 
           })));
         }
 
-        -- it is behind all commands
-        same_folders : (k : ℕ) → 0 ≤ k → k ≤ 0 + length (turns told) → folder_after old mid_safe.moments k ≡ folder_after old (works.moments.added ++ mid_safe.moments) k
-        same_folders k least most =
-            sym (folders_on old mid_safe.moments k works.moments.added
-            (Each-weaker OfRemoval (λ m. (is_up_to old k m ≡ false) ⊎ (m.folder ≡ folder_after old mid_safe.moments k))
-            (λ m inside. inl (later_written old k m (omega (arith, long_line, ap (λ (l : List ℕ). length l) (inside.output ∙ works.output ∙ mid_output))))) works.moments.added works.moments.each))
-
-        all_behind : (k : ℕ) → k ≤ length (turns told) → Each (IsBehind old k) works.moments.added
-        all_behind k most =
-            Each-weaker OfRemoval (IsBehind old k) (λ m inside. inl (later_written old k m (omega (arith, long_line, ap (λ (l : List ℕ). length l) (inside.output ∙ works.output ∙ mid_output))))) works.moments.added works.moments.each
-
-        end_safe : IsStressSafe OfHost names old new (stress_document old) (turns told) (told_line told)
+        end_safe : IsStressSafe names old new (stress_document old) (turns told) (told_line told)
         end_safe =
             let was = mid_safe in
             record {
@@ -358,8 +326,6 @@ module _ (OfHost : Scene → Type 0) (tells : Tells) (old now : Scene) (session 
               safe = Each-append (IsStressMoment names old (stress_document old) (turns told) (told_line told)) works.moments.added was.moments
                   (Each-weaker OfRemoval (IsStressMoment names old (stress_document old) (turns told) (told_line told)) removal works.moments.added works.moments.each) was.safe;
               spared = same_then (is_foreign names) old.folder mid.folder new.folder was.spared works.spared;
-              steps = stretches_later OfHost names old (works.moments.added ++ was.moments) (turns told) mid.folder_faults new.folder_faults finishes.cause.later
-                  (stretches_on OfHost names old was.moments works.moments.added (turns told) mid.folder_faults all_behind same_folders was.steps);
             }
 
         same_mid : mid.folder ≡ now.folder
@@ -368,22 +334,26 @@ module _ (OfHost : Scene → Type 0) (tells : Tells) (old now : Scene) (session 
         moved_end : GoesOn (λ m. BothMoved names m.folder) mid.trace new.trace × BothMoved names new.folder
         moved_end = subst (λ (n : Names). StaysMoved n mid new) turn.keeps.names (finishes.moved told.folder) (moved_by mid same_mid told)
 
-        end_calls : StressCalls OfHost old new (past told)
+        end_calls : StressCalls old new
         end_calls =
             let was = put_calls mid frame added told in
             record {
-              moments = works.moments.added ++ was.moments;
-              added = works.moments.is ∙ ap (λ (ms : List Snapshot). works.moments.added ++ ms) was.added ∙ sym (append_assoc works.moments.added was.moments old.trace);
-              each = called_on OfHost old was.moments works.moments.added (past told) (λ n most. all_behind n (omega (arith, most, as_many old (past told)))) was.each;
-              moved = Each-append (λ m. is_up_to old 0 m ≡ false → BothMoved names m.folder) works.moments.added was.moments
-                  (Each-weaker (λ m. BothMoved names m.folder) (λ m. is_up_to old 0 m ≡ false → BothMoved names m.folder) (λ m at later. at) works.moments.added
-                  (moved_to (λ m. BothMoved names m.folder) mid.trace new.trace works.moments.added works.moments.is moved_end.0)) was.moved;
+              moved = goes_then (λ m. length old.answers < m.answered → BothMoved names m.folder) old.trace mid.trace new.trace was.moved
+                  (goes_weaker (λ m. BothMoved names m.folder) (λ m. length old.answers < m.answered → BothMoved names m.folder) (λ m moved later. moved) mid.trace new.trace moved_end.0);
               readers = own_then old mid new was.readers (own_told tells mid new finishes.modes told.folder);
             }
 
-        stressed : HasStressed count old new (did_of (past told)) (told_line told)
-        stressed = record {
+        stressed : (P : Scene → Scene → Type 0) → P mid new → HasStressed (HasRunTo OfHost old (past told)) (WritesThen P (told_line told)) count old new (did_of (past told)) (told_line told)
+        stressed P removal = record {
           all = (turn.told told).1 ∙ all;
+          ended = now;
+          ran = (turn.told told).2.ran;
+          closes = record {
+            told = mid;
+            wrote = put_writes mid frame added told (length (told_line told)) (mid_now ∙ ap (λ (l : List ℕ). now.output ++ l) (sym all_line));
+            moments = inside_any (Spares names None (RecoversOrNone names (recoverable syncs)) mid.folder) new mid.trace new.trace works.moments;
+            removal = removal;
+          };
           output = works.output ∙ mid_output;
           cleared = λ made gone. finishes.cleared told.folder made (cleared_by mid same_mid told made gone);
           moved = moved_end.1;
@@ -404,7 +374,7 @@ module _ (OfHost : Scene → Type 0) (tells : Tells) (old now : Scene) (session 
         told = λ told. record {
           did = did_of (past told);
           kept = kept told;
-          answered = inr (inr (stressed told));
+          answered = inr (inr (stressed told FailsLast (finishes.last told.folder)));
           safe = λ free. end_safe told;
           last = rose_last folder_count old mid new (λ m no_fault. no_fault.folder) (finishes.last told.folder) rose (counted told);
           calls = end_calls told;
@@ -423,9 +393,9 @@ module _ (OfHost : Scene → Type 0) (tells : Tells) (old now : Scene) (session 
       stress_ends done = by_clean clean (λ told. (turn.told told).2.errors)
         where
           ends_as : (b : Bool) → ((told : TellsStress tells) → b ≡ not (any_error (opened_file old stress_name).state (past told))) → (told : TellsStress tells)
-              → StressEnds (not b) count old new (did_of (past told))
+              → StressEnds (HasRunTo OfHost old (past told)) (not b) count old new (did_of (past told))
           ends_as b errors told = record {
-            stressed = stressed told;
+            stressed = stressed told Quiet ((finishes.none done).quiet told.folder);
             errors_are = flip_clean b _ (errors told);
             gone = subst (λ (n : Names). IsFresh n new.folder) turn.keeps.names (finishes.gone done refl told.folder);
           }

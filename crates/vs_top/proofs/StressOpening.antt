@@ -1,14 +1,14 @@
 -- The opening of the stress mode, and what comes of it where it fails.
-use Rattle.std.proofs.Common.{◌≡◌, ◌⊎◌, inl, inr, ℕ, true, false, List, [], ◌++◌, length, IsTrue, refl, sym, ap, ◌∙◌, append-nil, arith}
-use Rattle.std.proofs.lemmas.Bool.{true≢false}
+use Rattle.std.proofs.Common.{◌≡◌, ◌⊎◌, inl, inr, ℕ, ◌<◌, true, List, [], length, IsTrue, refl, sym, ap, ◌∙◌, append-nil, arith}
 use Rattle.std.proofs.lemmas.List.Elements.{All-nil}
+use Rattle.std.specs.Prelude.{⊤}
 use Rattle.vs_faults.specs.Faults.{HasRisen, IsQuiet}
 use Rattle.vs_host.specs.Names.{names_of_file}
-use Rattle.vs_host.specs.Trace.{Snapshot, Each}
+use Rattle.vs_host.specs.Trace.{Snapshot}
 use Rattle.vs_host.specs.World.{Tells, Scene, HasNewest, content_of}
 use Rattle.vs_host.specs.declared.names.Names.{Names}
 use Rattle.vs_disk.specs.Runs.{Inside}
-use Rattle.vs_disk.proofs.Runs.{Each-weaker}
+use Rattle.vs_disk.proofs.Runs.{Each-weaker, goes_weaker}
 use Rattle.vs_pair.specs.Acts.{Acts}
 use Rattle.vs_pair.specs.Steps.{BothMoved}
 use Rattle.vs_machine.specs.declared.command.Mark.{Mark}
@@ -26,7 +26,8 @@ use Rattle.vs_stress.specs.Commands.{stress_commands}
 use Rattle.vs_top.specs.Ending.{open_ending}
 use Rattle.vs_top.specs.Promise.{HasStress, RunsStress, row}
 use Rattle.vs_top.specs.Run.{FileFits, FaultHasCause, counts_of, opened_file}
-use Rattle.vs_top.specs.Stress.{TellsStress, HasStretches, IsBeforeLine, IsStressMoment, is_up_to, stress_line, stress_name, stress_document}
+use Rattle.vs_top.specs.Stress.{TellsStress, IsBeforeLine, IsStressMoment, stress_line, stress_name, stress_document}
+use Rattle.vs_top.specs.StressCalls.{HasRunTo, StressCalls}
 use Rattle.vs_top.specs.StressTurns.{IsStressTurn}
 use Rattle.vs_top.specs.declared.ending.Ending.{Ending}
 use Rattle.vs_top.specs.declared.ending.Ending.TheVariants as ending
@@ -35,7 +36,6 @@ use Rattle.vs_top.proofs.Edits.{only_looked}
 use Rattle.vs_top.proofs.Opening.{did_none, kept_none, no_causes, no_times}
 use Rattle.vs_top.proofs.Readers.{own_told}
 use Rattle.vs_top.proofs.StressEnds.{at_moment}
-use Rattle.vs_top.proofs.StressFolders.{before_line, counts_now, up_to_start}
 
 abbrev names : Names
 names = names_of_file stress_name
@@ -44,22 +44,17 @@ module _ (OfHost : Scene → Type 0) (tells : Tells) (old new : Scene) (acts : A
   before : (free : HasSwap names old.folder → ⊥) → (m : Snapshot) → Inside old (Opens stress_name old.folder) m → IsBeforeLine names old (stress_document old) [] m
   before free m inside = record { spared = inside.folder.spared; recovers = inl (record { answered = inside.answered; written = inside.output; recovers = inside.folder.safe free }) }
 
-  -- no command has begun at it
-  up_to_none : (free : HasSwap names old.folder → ⊥) → (m : Snapshot) → Inside old (Opens stress_name old.folder) m → is_up_to old 0 m ≡ true
-  up_to_none free m inside = before_line names old (stress_document old) [] 0 (omega arith) m (before free m inside)
-
-  -- so that nothing is said of the names under which its swap files are made
-  moved_none : (moments : List Snapshot) → Each (Inside old (Opens stress_name old.folder)) moments → Each (λ m. is_up_to old 0 m ≡ false → BothMoved names m.folder) moments
-  moved_none moments each = Each-weaker (Inside old (Opens stress_name old.folder)) (λ m. is_up_to old 0 m ≡ false → BothMoved names m.folder)
-      (λ m inside later. absurd (true≢false (sym (up_to_start old m inside.answered inside.output) ∙ later))) moments each
-
-  -- and the count of the calls that failed is that of the host
-  first_count : (moments : List Snapshot) → new.trace ≡ moments ++ old.trace → Each (λ m. is_up_to old 0 m ≡ true) moments → HasStretches OfHost names old moments [] new.folder_faults
-  first_count moments added each = record { before = new.folder_faults; counted = counts_now OfHost old new 0 moments of_host added each; since = acts.later; each = omega arith }
+  -- no command has begun at any moment, so that nothing is said of the names under which its swap files are made
+  calls : TellsStress tells → StressCalls old new
+  calls told = record {
+    moved = goes_weaker (Inside old (Opens stress_name old.folder)) (λ m. length old.answers < m.answered → BothMoved names m.folder)
+        (λ m inside later. absurd (omega (arith, inside.answered, later))) old.trace new.trace (acts.runs told.folder).moments;
+    readers = own_told tells old new acts.modes told.folder;
+  }
 
   -- it was not opened
   module _ (count : ℕ) (marks : List Mark) (none : marks ≡ []) where
-    stress_none : (end : Ending) → TellsStress tells → (row end).stressed count old new marks did_none → (row end).last old new → HasStress OfHost count old new end marks
+    stress_none : (end : Ending) → TellsStress tells → (row end).stressed (HasRunTo OfHost old []) count old new marks did_none → (row end).last old new → HasStress OfHost count old new end marks
     stress_none end told answered last = record {
       did = did_none;
       kept = kept_none stress_name old marks none;
@@ -71,10 +66,9 @@ module _ (OfHost : Scene → Type 0) (tells : Tells) (old new : Scene) (acts : A
             added = runs.moments.is;
             safe = Each-weaker (Inside old (Opens stress_name old.folder)) (IsStressMoment names old (stress_document old) [] (stress_line count old [])) (λ m inside. at_moment old (stress_document old) [] (stress_line count old []) m (before free m inside)) runs.moments.added runs.moments.each;
             spared = runs.now.spared;
-            steps = first_count runs.moments.added runs.moments.is (Each-weaker (Inside old (Opens stress_name old.folder)) (λ m. is_up_to old 0 m ≡ true) (up_to_none free) runs.moments.added runs.moments.each);
           };
       last = last;
-      calls = let runs = acts.runs told.folder in record { moments = runs.moments.added; added = runs.moments.is; each = tt; moved = moved_none runs.moments.added runs.moments.each; readers = own_told tells old new acts.modes told.folder };
+      calls = calls told;
     }
 
     output_same : new.output ≡ old.output
@@ -109,7 +103,7 @@ module _ (OfHost : Scene → Type 0) (tells : Tells) (old new : Scene) (acts : A
       times = λ told. no_times old new marks none (ap (λ (s : Scene). s.answers) acts.frame);
     }
     stress_open_fails opening.NoMemory failed quiet limit swap barred barred_looks looks = record {
-      told = λ told. stress_none ending.NoMemory told (record { rest = stress_commands count; first = refl; output = output_same; closing = refl; kept = inl ((looks (λ is. absurd (cc))).runs told.folder); cleared = cleared_same old.folder new.folder ((looks (λ is. absurd (cc))).runs told.folder).now }) tt;
+      told = λ told. stress_none ending.NoMemory told (record { rest = stress_commands count; first = refl; output = output_same; closing = refl; kept = inl (record { none = refl; looks = (looks (λ is. absurd (cc))).runs told.folder; quiet = quiet (λ is. absurd (cc)) }); cleared = cleared_same old.folder new.folder ((looks (λ is. absurd (cc))).runs told.folder).now }) tt;
       swap = λ told is. absurd (cc);
       barred = λ told has. only_looked tells old new ending.NoMemory marks (inr (inl refl)) none (barred_looks told has) told;
       file = λ told. tt;
@@ -131,9 +125,9 @@ module _ (OfHost : Scene → Type 0) (tells : Tells) (old new : Scene) (acts : A
 
   -- it was opened
   pub stress_opened : (session : Session) → names_of session ≡ names → (IsTrue tells.folder → HasSwap names old.folder → ⊥) → (IsTrue tells.folder → FileFits (content_of old stress_name))
-      → (IsTrue tells.folder → Fits session new.folder (opened_file old stress_name).state (opened (stress_document old))) → (IsTrue tells.folder → HasNewest old) → (IsTrue tells.folder → HasNewest new)
+      → (IsTrue tells.folder → Fits session new.folder (opened_file old stress_name).state (opened (stress_document old))) → (IsTrue tells.folder → HasNewest new) → new.folder_faults ≡ old.folder_faults
       → (IsTrue tells.folder → LeavesNoneMade old.folder new.folder) → (IsTrue tells.folder → BothMoved names new.folder) → IsStressTurn OfHost tells old new session [] true []
-  stress_opened session same free file fits newest_at_start newest cleared moved = record {
+  stress_opened session same free file fits newest none cleared moved = record {
     told = λ told.
         let runs = acts.runs told.folder in (
           [],
@@ -146,15 +140,26 @@ module _ (OfHost : Scene → Type 0) (tells : Tells) (old new : Scene) (acts : A
             added = runs.moments.is;
             safe = Each-weaker (Inside old (Opens stress_name old.folder)) (IsBeforeLine names old (stress_document old) []) (before (free told.folder)) runs.moments.added runs.moments.each;
             spared = runs.now.spared;
-            steps = first_count runs.moments.added runs.moments.is (Each-weaker (Inside old (Opens stress_name old.folder)) (λ m. is_up_to old 0 m ≡ true) (up_to_none (free told.folder)) runs.moments.added runs.moments.each);
-            of_host = of_host;
-            calls = tt;
+            ran = (
+              record {
+                of_host = of_host;
+                newest = newest told.folder;
+                clock = ap (λ (s : Scene). s.answers) acts.frame ∙ sym (append-nil old.answers);
+                output = ap (λ (s : Scene). s.output) acts.frame;
+                moments = goes_weaker (Inside old (Opens stress_name old.folder)) (Inside new (λ folder. ⊤))
+                    (λ m inside. record {
+                      output = inside.output ∙ sym (ap (λ (s : Scene). s.output) acts.frame);
+                      answered = inside.answered ∙ sym (ap (λ (s : Scene). length s.answers) acts.frame);
+                      script_faults = inside.script_faults ∙ sym (ap (λ (s : Scene). s.script_faults) acts.frame);
+                      out_faults = inside.out_faults ∙ sym (ap (λ (s : Scene). s.out_faults) acts.frame);
+                      folder = tt;
+                    }) old.trace new.trace runs.moments;
+              },
+              record { last = acts.last told.folder; none = none; cleared = cleared told.folder; moved = moved told.folder; readers = own_told tells old new acts.modes told.folder },
+            );
+            calls = calls told;
             cleared = cleared told.folder;
-            moved = moved_none runs.moments.added runs.moments.each;
             here = moved told.folder;
-            readers = own_told tells old new acts.modes told.folder;
-            newest_at_start = newest_at_start told.folder;
-            newest = newest told.folder;
             output = ap (λ (s : Scene). s.output) acts.frame;
             answers = omega (arith, ap (λ (s : Scene). length s.answers) acts.frame);
             counted = counted_on output_count old old new

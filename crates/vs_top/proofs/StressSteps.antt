@@ -1,20 +1,20 @@
 -- A command of the stress mode: what it leaves of what is known between two of them.
-use Rattle.std.proofs.Common.{◌≡◌, ◌⊎◌, inl, inr, ℕ, ◌≤◌, ◌+◌, Bool, true, false, not, ◌&&◌, ◌||◌, if◌then◌else◌, List, [], ◌∷◌, ◌++◌, length, map, Option, Some, None, Ok, IsTrue, refl, sym, ap, subst, ◌∙◌, append_assoc, arith}
+use Rattle.std.proofs.Common.{◌≡◌, inl, inr, ℕ, ◌<◌, ◌+◌, Bool, true, false, not, ◌&&◌, ◌||◌, if◌then◌else◌, List, [], ◌∷◌, ◌++◌, length, map, Option, Some, None, Ok, IsTrue, refl, sym, ap, subst, ◌∙◌, append_assoc, arith}
+use Rattle.std.specs.Prelude.{⊤}
 use Rattle.std.proofs.lemmas.Bool.{true≢false}
 use Rattle.std.proofs.lemmas.List.{length-append}
 use Rattle.std.proofs.lemmas.List.Elements.{All-nil, All-cons, All-append}
 use Rattle.vs_faults.proofs.Causes.{risen_after}
 use Rattle.vs_host.specs.Disk.{Disk}
 use Rattle.vs_host.specs.Names.{names_of_file}
-use Rattle.vs_host.specs.Trace.{Snapshot, Each}
+use Rattle.vs_host.specs.Trace.{Snapshot, Each, GoesOn}
 use Rattle.vs_host.specs.World.{Tells, Scene, HasNewest}
 use Rattle.vs_host.specs.declared.names.Names.{Names}
 use Rattle.vs_disk.specs.Runs.{Inside}
-use Rattle.vs_disk.proofs.Runs.{Each-append, Each-weaker}
+use Rattle.vs_disk.proofs.Runs.{Each-append, Each-weaker, goes_then, goes_weaker}
 use Rattle.vs_disk.proofs.Others.{same_then}
 use Rattle.vs_pair.specs.Pair.{is_foreign}
 use Rattle.vs_pair.specs.Steps.{BothMoved}
-use Rattle.vs_desk.proofs.Left.{moved_to}
 use Rattle.vs_exparse.specs.Command.Command.{Write as WriteFile, WriteUndo}
 use Rattle.vs_excmd.specs.Request.{Instruction, IsRequest}
 use Rattle.vs_excmd.specs.declared.request.Request.{Request}
@@ -25,8 +25,8 @@ use Rattle.vs_machine.specs.declared.command.Outcome.{Outcome}
 use Rattle.vs_machine.specs.declared.command.Outcome.TheVariants as outcome
 use Rattle.vs_text.specs.Documents.{Document}
 use Rattle.vs_safety.specs.Texts.{Sync, Recovers, recoverable}
-use Rattle.vs_safety.specs.Turns.{Turn, with_begun}
-use Rattle.vs_safety.specs.History.{syncs_of}
+use Rattle.vs_safety.specs.Turns.{Turn, with_begun, after_turns, opened}
+use Rattle.vs_safety.specs.History.{syncs_of, turns_then}
 use Rattle.vs_safety.specs.FileWork.{FileWork}
 use Rattle.vs_safety.specs.Safety.{IsUnderWay, Spares, Stepped, Works}
 use Rattle.vs_safety.proofs.Histories.{then_is}
@@ -37,17 +37,26 @@ use Rattle.vs_session.specs.Wholeness.{StaysWhole}
 use Rattle.vs_session.specs.Fits.{Answers}
 use Rattle.vs_session.specs.Made.{ClearsMade, IsLeftBy, LeavesNoneBut, LeavesNoneMade}
 use Rattle.vs_session.specs.Modes.{KeepsMode, KeepsReaders}
-use Rattle.vs_top.specs.Calls.{StepCalls}
 use Rattle.vs_top.specs.History.{Past, any_error, commands_then, marks_of}
 use Rattle.vs_top.specs.Run.{counts_of, FaultHasCause, opened_file}
-use Rattle.vs_top.specs.Stress.{TellsStress, HasEnds, HasStretches, IsBeforeLine, IsBehind, folder_after, is_up_to, stress_history, stress_name, stress_state, stress_document, stress_turns}
-use Rattle.vs_top.specs.StressCalls.{EachCalled, HasCalled}
+use Rattle.vs_top.specs.Stress.{TellsStress, IsBeforeLine, stress_history, stress_name, stress_state, stress_document, stress_turns}
+use Rattle.vs_top.specs.StressCalls.{HasRunTo, StressCalls}
 use Rattle.vs_top.specs.StressTurns.{IsStressTurn, StressTold}
 use Rattle.vs_top.proofs.Counting.{causes_on, counted_works}
 use Rattle.vs_top.proofs.Pushes.{and_not, map_push}
 use Rattle.vs_top.proofs.Readers.{own_then}
 use Rattle.vs_top.proofs.Stepping.{HasStepped}
-use Rattle.vs_top.proofs.StressFolders.{as_many, called_on, stress_syncs, before_line, counts_now, folder_now, folders_on, later_read, stretches_on, stretches_push, told_folder}
+
+-- the syncs of its turns are those of its history
+pub stress_syncs : (old : Scene) (past : Past) (rest : List Turn) → after_turns (opened (stress_document old)) (turns_then (stress_history old past) rest) ≡ after_turns (syncs_of (stress_history old past)) rest
+stress_syncs old [] rest = refl
+stress_syncs old (last ∷ past) rest = stress_syncs old past (turn_of (stress_state old past) last.instruction last.ended ∷ rest)
+
+-- calls that worked on the folder alone did so whatever it had
+pub inside_any : (P : Disk → Type 0) (start : Scene) (old new : List Snapshot) → GoesOn (Inside start P) old new → GoesOn (Inside start (λ folder. ⊤)) old new
+inside_any P start =
+    goes_weaker (Inside start P) (Inside start (λ folder. ⊤))
+    (λ m inside. record { output = inside.output; answered = inside.answered; script_faults = inside.script_faults; out_faults = inside.out_faults; folder = tt })
 
 -- the moments so far, with one command more
 pub moment_on : (names : Names) (start : Scene) (document : Document) (turns : List Turn) (turn : Turn) (m : Snapshot) → IsBeforeLine names start document turns m → IsBeforeLine names start document (turns ++ turn ∷ []) m
@@ -174,46 +183,6 @@ module _ (OfHost : Scene → Type 0) (tells : Tells) (old now new : Scene) (sess
         (Each-weaker (Inside new (Spares names None (IsUnderWay names (with_begun one.sync syncs) None) now.folder)) (each (turns ++ one ∷ [])) moment_here newer works.moments.each)
         (Each-weaker (each turns) (each (turns ++ one ∷ [])) (λ m is. moment_on names old (stress_document old) turns one m is) here.moments here.safe)
 
-    -- the folders of the commands before are those that they were
-    same_before : (n : ℕ) → 0 ≤ n → n ≤ 0 + length turns → folder_after old here.moments n ≡ folder_after old moments n
-    same_before n least most =
-        sym (folders_on old here.moments n newer
-        (Each-weaker (Inside new (Spares names None (IsUnderWay names (with_begun one.sync syncs) None) now.folder)) (λ m. (is_up_to old n m ≡ false) ⊎ (m.folder ≡ folder_after old here.moments n))
-        (λ m inside. inl (later_read old n m (omega (arith, inside.answered, long_now, most)))) newer works.moments.each))
-
-    found_folder : now.folder ≡ folder_after old moments (length turns)
-    found_folder = sym (told_folder OfHost old now session marks clean past here) ∙ same_before (length turns) (omega arith) (omega arith)
-
-    left_folder : new.folder ≡ folder_after old moments (length turns + 1)
-    left_folder =
-        let last : List Turn = one ∷ [] in
-        sym (folder_now old new (length turns + 1) moments here.newest_at_start (newest told.folder) added
-        (Each-weaker (IsBeforeLine names old (stress_document old) (turns ++ last)) (λ m. is_up_to old (length turns + 1) m ≡ true)
-        (before_line names old (stress_document old) (turns ++ last) (length turns + 1) (omega (arith, length-append turns last))) moments safe))
-
-    ends_here : HasEnds names one (folder_after old moments (length turns)) (folder_after old moments (length turns + 1)) now.folder_faults new.folder_faults
-    ends_here =
-        subst (λ (d : Disk). HasEnds names one d (folder_after old moments (length turns + 1)) now.folder_faults new.folder_faults) found_folder
-        (subst (λ (d : Disk). HasEnds names one now.folder d now.folder_faults new.folder_faults) left_folder
-        (record { found = ap Some stepped.found; flag = stepped.flag; later = step.later; cause = stepped.cause }))
-
-    behind_before : (n : ℕ) → n ≤ length turns → Each (IsBehind old n) newer
-    behind_before n most =
-        Each-weaker (Inside new (Spares names None (IsUnderWay names (with_begun one.sync syncs) None) now.folder)) (IsBehind old n)
-        (λ m inside. inl (later_read old n m (omega (arith, inside.answered, long_now, most)))) newer works.moments.each
-
-    all_up_to : Each (λ m. is_up_to old (length turns + 1) m ≡ true) moments
-    all_up_to =
-        let last : List Turn = one ∷ [] in
-        Each-weaker (IsBeforeLine names old (stress_document old) (turns ++ last)) (λ m. is_up_to old (length turns + 1) m ≡ true)
-        (before_line names old (stress_document old) (turns ++ last) (length turns + 1) (omega (arith, length-append turns last))) moments safe
-
-    steps : HasStretches OfHost names old moments (turns ++ one ∷ []) new.folder_faults
-    steps =
-        stretches_push OfHost names old moments turns one now.folder_faults new.folder_faults
-        (stretches_on OfHost names old here.moments newer turns now.folder_faults behind_before same_before here.steps)
-        (counts_now OfHost old new (length turns + 1) moments of_host added all_up_to) ends_here
-
     clears : ClearsMade names state instruction answers.ended now new
     clears = subst (λ (n : Names). ClearsMade n state instruction answers.ended now new) turn.keeps.names answers.cleared
 
@@ -225,37 +194,37 @@ module _ (OfHost : Scene → Type 0) (tells : Tells) (old now new : Scene) (sess
     reads : KeepsReaders names.file instruction now new
     reads = subst (λ (n : Names). KeepsReaders n.file instruction now new) turn.keeps.names answers.modes
 
-    moved_here : Each (λ m. BothMoved names m.folder) newer
-    moved_here = moved_to (λ m. BothMoved names m.folder) now.trace new.trace newer works.moments.is (clears.moved here.here).0
-
-    calls : EachCalled OfHost old moments past'
-    calls = (
-      subst (λ (n : ℕ). HasCalled OfHost (StepCalls names state (record { instruction = instruction; ended = answers.ended })) old moments n) (as_many old past)
-          (record {
-            asked = now;
-            ended = new;
-            begins = record {
-              of_host = here.of_host;
-              later = newer;
-              earlier = here.moments;
-              moments_are = refl;
-              later_are = behind_before (length turns) (omega arith);
-              earlier_are = Each-weaker (IsBeforeLine names old (stress_document old) turns) (λ m. is_up_to old (length turns) m ≡ true)
-                  (before_line names old (stress_document old) turns (length turns) (omega arith)) here.moments here.safe;
-              trace = here.added;
-            };
-            ends = record { of_host = of_host; later = []; earlier = moments; moments_are = refl; later_are = tt; earlier_are = all_up_to; trace = added };
-            holds = record {
-              found = stepped.found;
-              fails = subst (λ (n : Names). FailsOnce n state instruction answers.ended now new) turn.keeps.names answers.calls;
-              whole = subst (λ (n : Names). StaysWhole n state instruction answers.ended now new) turn.keeps.names answers.whole;
-              cleared = clears;
-              readers = reads;
-              mode = subst (λ (n : Names). KeepsMode n.file state instruction answers.ended now new) turn.keeps.names answers.mode;
-            };
-          }),
-      called_on OfHost old here.moments newer past (λ n most. behind_before n (omega (arith, most, as_many old past))) here.calls,
+    ran : HasRunTo OfHost old past' new
+    ran = (
+      now,
+      here.ran,
+      record {
+        of_host = of_host;
+        newest = newest told.folder;
+        clock = step.clock told.clock ∙ ap (λ (m : Mark). now.answers ++ m.at ∷ []) (sym answers.mark_is);
+        output = works.output;
+        moments = inside_any (Spares names None (IsUnderWay names (with_begun one.sync syncs) None) now.folder) new now.trace new.trace works.moments;
+      },
+      record {
+        calls = record {
+          found = stepped.found;
+          fails = subst (λ (n : Names). FailsOnce n state instruction answers.ended now new) turn.keeps.names answers.calls;
+          whole = subst (λ (n : Names). StaysWhole n state instruction answers.ended now new) turn.keeps.names answers.whole;
+          cleared = clears;
+          readers = reads;
+          mode = subst (λ (n : Names). KeepsMode n.file state instruction answers.ended now new) turn.keeps.names answers.mode;
+        };
+        flag = stepped.flag;
+        cause = record { later = step.later; risen = stepped.cause };
+      },
     )
+
+    calls : StressCalls old new
+    calls = record {
+      moved = goes_then (λ m. length old.answers < m.answered → BothMoved names m.folder) old.trace now.trace new.trace here.calls.moved
+          (goes_weaker (λ m. BothMoved names m.folder) (λ m. length old.answers < m.answered → BothMoved names m.folder) (λ m moved later. moved) now.trace new.trace (clears.moved here.here).0);
+      readers = own_then old now new here.calls.readers (λ allowed owner. reads.each allowed owner (λ writes. absurd (true≢false (sym writes ∙ plain))));
+    }
 
     told_on : StressTold OfHost old new after (marks ++ mark ∷ []) (clean && (is_done mark.outcome && not reply.is_error)) past'
     told_on =
@@ -274,16 +243,10 @@ module _ (OfHost : Scene → Type 0) (tells : Tells) (old now new : Scene) (sess
           added = added;
           safe = subst (λ (ts : List Turn). Each (IsBeforeLine names old (stress_document old) ts) moments) (sym turns_are) safe;
           spared = same_then (is_foreign names) old.folder now.folder new.folder here.spared works.spared;
-          steps = subst (λ (ts : List Turn). HasStretches OfHost names old moments ts new.folder_faults) (sym turns_are) steps;
-          of_host = of_host;
+          ran = ran;
           calls = calls;
           cleared = λ made gone. clear_here made (here.cleared made gone);
-          moved = Each-append (λ m. is_up_to old 0 m ≡ false → BothMoved names m.folder) newer here.moments
-              (Each-weaker (λ m. BothMoved names m.folder) (λ m. is_up_to old 0 m ≡ false → BothMoved names m.folder) (λ m at later. at) newer moved_here) here.moved;
           here = (clears.moved here.here).1;
-          readers = own_then old now new here.readers (λ allowed owner. reads.each allowed owner (λ writes. absurd (true≢false (sym writes ∙ plain))));
-          newest_at_start = here.newest_at_start;
-          newest = newest told.folder;
           output = works.output ∙ here.output;
           answers = omega (arith, long_now, ap (λ (ts : List Turn). length ts) turns_are, length-append turns one_turn);
           counted = counted_works names None _ old now new (ap (λ (s : Scene). s.out_faults) step.frame) works here.counted;

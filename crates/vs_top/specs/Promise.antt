@@ -5,12 +5,12 @@ use Rattle.std.specs.declared.option.Option.{Option}
 use Rattle.vs_faults.specs.Faults.{HasRisen}
 use Rattle.vs_host.specs.Names.{names_of_file}
 use Rattle.vs_host.specs.World.{Tells, Scene, content_of}
-use Rattle.vs_disk.specs.Runs.{Looks}
+use Rattle.vs_disk.specs.Runs.{FailsLast, Looks}
 use Rattle.vs_text.specs.Documents.{document_of}
 use Rattle.vs_script.specs.Ahead.{script_limit}
 use Rattle.vs_machine.specs.declared.command.Mark.{Mark}
 use Rattle.vs_safety.specs.Turns.{NotBegun}
-use Rattle.vs_safety.specs.Safety.{IsCrashSafe}
+use Rattle.vs_safety.specs.Safety.{IsCrashSafe, Writes}
 use Rattle.vs_safety.specs.Causes.{RoseLast, script_count, output_count, folder_count}
 use Rattle.vs_session.specs.Open.{PassesLimit}
 use Rattle.vs_session.specs.Opened.{Opened}
@@ -18,8 +18,9 @@ use Rattle.vs_session.specs.Fits.{HasSwap, Opens}
 use Rattle.vs_top.specs.Run.{TellsRun, Did, KeepsMarks, AnswersNone, AnswersAll, AnswersTaken, AnswersLimit, LacksAtOnce, LacksMemory, IsCutShort, IsCutLast}
 use Rattle.vs_top.specs.Run.{FailsToClose, KeepsSwap, Counts, counts_of, OnlyFolder, FaultHasCause, FileFits, IsBarred, IsTimed, opened_file, ran_of}
 use Rattle.vs_top.specs.Calls.{CallsAsMarked}
-use Rattle.vs_top.specs.Stress.{TellsStress, HasStressed, IsStressing, IsStressSafe, StressEnds, stress_line, stress_name, stress_document, stress_turns}
-use Rattle.vs_top.specs.StressCalls.{StressCalls}
+use Rattle.vs_top.specs.Stress.{TellsStress, HasStressed, IsStressing, IsStressSafe, StressEnds, WritesThen}
+use Rattle.vs_top.specs.Stress.{stress_line, stress_name, stress_document, stress_turns}
+use Rattle.vs_top.specs.StressCalls.{HasRunTo, StressCalls}
 use Rattle.vs_top.specs.declared.ending.Ending.{Ending}
 use Rattle.vs_top.specs.declared.ending.Ending.TheVariants as ending
 
@@ -27,9 +28,9 @@ use Rattle.vs_top.specs.declared.ending.Ending.TheVariants as ending
 
 -- What is said of a run that ends so.
 pub record Row : Type 1 where
-  -- what `edit` answered and wrote, and what `stress` did
+  -- what `edit` answered and wrote, and what `stress` did, where this is known of the scene in which its last command ended
   pub answered : Opened → Scene → Scene → List Mark → Did → Type 0
-  pub stressed : ℕ → Scene → Scene → List Mark → Did → Type 0
+  pub stressed : (Scene → Type 0) → ℕ → Scene → Scene → List Mark → Did → Type 0
   -- what it leaves of the swap files
   pub left : Opened → Scene → Scene → Did → Type 0
   -- the failed call was the last one, or the folder was only looked at
@@ -42,8 +43,8 @@ pub record Row : Type 1 where
   pub taken : ℕ
 
 -- `stress` does not end so
-abbrev pub none_stressed : ℕ → Scene → Scene → List Mark → Did → Type 0
-none_stressed count old new marks did = ⊥
+abbrev pub none_stressed : (Scene → Type 0) → ℕ → Scene → Scene → List Mark → Did → Type 0
+none_stressed RanTo count old new marks did = ⊥
 
 -- no run ends so
 abbrev pub never : Row
@@ -61,7 +62,7 @@ never = record {
 abbrev pub unopened : (Option (List ℕ) → Type 0) → Row
 unopened file = record {
   answered = λ opened old new marks did. AnswersNone old new marks;
-  stressed = λ count old new marks did. AnswersNone old new marks;
+  stressed = λ RanTo count old new marks did. AnswersNone old new marks;
   left = λ opened old new did. ⊤;
   last = Looks;
   counts = λ old new. new ≡ old;
@@ -70,7 +71,7 @@ unopened file = record {
 }
 
 -- the file was opened
-abbrev pub after_opening : (Opened → Scene → Scene → List Mark → Did → Type 0) → (ℕ → Scene → Scene → List Mark → Did → Type 0) → Row
+abbrev pub after_opening : (Opened → Scene → Scene → List Mark → Did → Type 0) → ((Scene → Type 0) → ℕ → Scene → Scene → List Mark → Did → Type 0) → Row
 after_opening answered stressed = record {
   answered = answered;
   stressed = stressed;
@@ -84,7 +85,8 @@ after_opening answered stressed = record {
 -- all commands were answered, and some reply is an error or none is
 abbrev pub came_to_end : Bool → Row
 came_to_end errors =
-    after_opening (λ file old new marks did. AnswersAll errors file old new did) (λ count old new marks did. StressEnds errors count old new did)
+    after_opening (λ file old new marks did. AnswersAll errors file old new did)
+    (λ RanTo count old new marks did. StressEnds RanTo errors count old new did)
 
 -- a read of the script failed
 abbrev pub script_fault : Row
@@ -96,7 +98,8 @@ script_fault = record (after_opening (λ file old new marks did. AnswersTaken fi
 -- a write of the output failed
 abbrev pub output_fault : Row
 output_fault = record (after_opening (λ file old new marks did. IsCutShort file old new did ⊎ IsCutLast file old new did)
-    (λ count old new marks did. (n : ℕ) × HasStressed count old new did (take n (stress_line count old did.past)))) {
+    (λ RanTo count old new marks did.
+    (n : ℕ) × HasStressed RanTo (Writes n (stress_line count old did.past)) count old new did (take n (stress_line count old did.past)))) {
       last = RoseLast output_count;
       counts = λ old new. HasRisen old.output new.output × OnlyFolder old (record new { output = old.output });
     }
@@ -108,8 +111,9 @@ failed_opening name old new marks = AnswersNone old new marks × Opens name old.
 -- a call on the folder failed, of the opening or of the close
 abbrev pub folder_fault : Row
 folder_fault = record (after_opening (λ file old new marks did. failed_opening file.name old new marks ⊎ FailsToClose file old new did)
-    (λ count old new marks did.
-    failed_opening stress_name old new marks ⊎ HasStressed count old new did [] ⊎ HasStressed count old new did (stress_line count old did.past))) {
+    (λ RanTo count old new marks did.
+    failed_opening stress_name old new marks ⊎ HasStressed RanTo (λ ended now. now ≡ ended) count old new did []
+    ⊎ HasStressed RanTo (WritesThen FailsLast (stress_line count old did.past)) count old new did (stress_line count old did.past))) {
       left = λ file old new did. (did.closing ≡ NotBegun) ⊎ KeepsSwap file did new.folder;
       last = RoseLast folder_count;
       counts = λ old new. HasRisen old.folder new.folder × OnlyFolder old new;
@@ -119,7 +123,7 @@ folder_fault = record (after_opening (λ file old new marks did. failed_opening 
 -- there was no memory: to open the file, so that the folder was only looked at, or later
 abbrev pub no_memory : Row
 no_memory = record (after_opening (λ file old new marks did. LacksAtOnce old new marks ⊎ LacksMemory file old new did)
-    (λ count old new marks did. IsStressing count old new did)) {
+    (λ RanTo count old new marks did. IsStressing RanTo count old new did)) {
       left = λ file old new did. (did.closing ≡ NotBegun) × (Looks old new ⊎ KeepsSwap file did new.folder);
       file = λ file. ⊤;
     }
@@ -171,11 +175,11 @@ pub record RunsEdit (tells : Tells) (name : List ℕ) (old new : Scene) (end : E
 pub record HasStress (OfHost : Scene → Type 0) (count : ℕ) (old new : Scene) (end : Ending) (marks : List Mark) : Type 0 where
   pub did : Did
   pub kept : KeepsMarks (opened_file old stress_name) marks did.past
-  pub answered : (row end).stressed count old new marks did
+  pub answered : (row end).stressed (HasRunTo OfHost old did.past) count old new marks did
   pub safe : (HasSwap (names_of_file stress_name) old.folder → ⊥)
-      → IsStressSafe OfHost (names_of_file stress_name) old new (stress_document old) (stress_turns old did.past) (stress_line count old did.past)
+      → IsStressSafe (names_of_file stress_name) old new (stress_document old) (stress_turns old did.past) (stress_line count old did.past)
   pub last : (row end).last old new
-  pub calls : StressCalls OfHost old new did.past
+  pub calls : StressCalls old new
 
 -- What the stress mode does, by its ending, where these are the scenes of the hosts of a type. The script is not read.
 pub record RunsStress (OfHost : Scene → Type 0) (tells : Tells) (count : ℕ) (old new : Scene) (end : Ending) (marks : List Mark) : Type 0 where

@@ -1,19 +1,17 @@
 -- What the stress mode does: it answers commands of its own over a session, and writes what the session has come to.
-use Rattle.std.specs.Prelude.{ℕ, Bool, true, false, List, ◌∷◌, [], ◌≡◌, ◌≤◌, ◌+◌, ◌⊎◌, ◌++◌, ◌&&◌, if◌then◌else◌, codes, length, take, nat_le, IsTrue}
-use Rattle.std.specs.Prelude.{IfSome, Some}
-use Rattle.vs_faults.specs.Faults.{HasRisen}
-use Rattle.vs_host.specs.Disk.{Disk}
+use Rattle.std.specs.Prelude.{ℕ, Bool, List, ◌∷◌, [], ◌≡◌, ◌+◌, ◌⊎◌, ◌++◌, ⊤, codes, length, take, IsTrue}
 use Rattle.vs_host.specs.Names.{names_of_file}
-use Rattle.vs_host.specs.Trace.{Snapshot, Each, WroteOutput}
+use Rattle.vs_host.specs.Trace.{Snapshot, Each, GoesOn}
 use Rattle.vs_host.specs.World.{Tells, Scene, content_of}
 use Rattle.vs_host.specs.declared.names.Names.{Names}
 use Rattle.vs_disk.specs.Names.{SameAt}
-use Rattle.vs_disk.specs.Runs.{Looks}
+use Rattle.vs_disk.specs.Runs.{Inside, Looks, Quiet}
 use Rattle.vs_text.specs.Documents.{Document}
 use Rattle.vs_pair.specs.Pair.{is_foreign}
 use Rattle.vs_pair.specs.Steps.{BothMoved, IsFresh}
 use Rattle.vs_excmd.specs.Request.{Instruction}
-use Rattle.vs_safety.specs.Texts.{Recovers, RecoversOrNone, IsFlag, recoverable}
+use Rattle.vs_safety.specs.Safety.{Writes}
+use Rattle.vs_safety.specs.Texts.{Recovers, RecoversOrNone, recoverable}
 use Rattle.vs_safety.specs.Turns.{NotBegun, Turn, with_begun, after_turns, opened}
 use Rattle.vs_safety.specs.History.{History, syncs_of, turns_then}
 use Rattle.vs_session.specs.Session.{SessionState}
@@ -63,83 +61,49 @@ stress_line count old past =
     let summary = summary_of (stress_state old past) (syncs_of (stress_history old past)) in
     summary_line count summary.lines summary.changes summary.syncs summary.digest
 
--- All commands were answered, and this was written. No file stays under a name under which one was made.
-pub record HasStressed (count : ℕ) (old new : Scene) (did : Did) (written : List ℕ) : Type 0 where
+-- The next calls are a write of the whole line, and those that remove the swap files, of which P holds.
+pub record WritesThen (P : Scene → Scene → Type 0) (line : List ℕ) (ended new : Scene) : Type 0 where
+  pub told : Scene
+  pub wrote : Writes (length line) line ended told
+  pub moments : GoesOn (Inside new (λ folder. ⊤)) told.trace new.trace
+  pub removal : P told new
+
+-- All commands were answered and led to a scene of which `RanTo` holds, the calls since then are as `Closes` says, and this was written. No
+-- file stays under a name under which one was made.
+pub record HasStressed (RanTo : Scene → Type 0) (Closes : Scene → Scene → Type 0) (count : ℕ) (old new : Scene) (did : Did) (written : List ℕ) : Type 0 where
   pub all : commands_then did.past [] ≡ stress_commands count
+  pub ended : Scene
+  pub ran : RanTo ended
+  pub closes : Closes ended new
   pub output : new.output ≡ old.output ++ written
   pub cleared : LeavesNoneMade old.folder new.folder
   pub moved : BothMoved (names_of_file stress_name) new.folder
 
--- The whole line was written, and the swap files were removed.
-pub record StressEnds (errors : Bool) (count : ℕ) (old new : Scene) (did : Did) : Type 0 where
-  pub stressed : HasStressed count old new did (stress_line count old did.past)
+-- The whole line was written, and the swap files were removed. Of that no call failed.
+pub record StressEnds (RanTo : Scene → Type 0) (errors : Bool) (count : ℕ) (old new : Scene) (did : Did) : Type 0 where
+  pub stressed : HasStressed RanTo (WritesThen Quiet (stress_line count old did.past)) count old new did (stress_line count old did.past)
   pub errors_are : any_error (opened_file old stress_name).state did.past ≡ errors
   pub gone : IsFresh (names_of_file stress_name) new.folder
 
--- The first commands were answered, and nothing was written. The folder was only looked at, or some session fits it, so that both swap
--- files are there. No file stays under a name under which one was made.
-pub record IsStressing (count : ℕ) (old new : Scene) (did : Did) : Type 0 where
+-- No command was answered, the folder was only looked at, and no call failed.
+pub record IsUnopened (old new : Scene) (did : Did) : Type 0 where
+  pub none : did.past ≡ []
+  pub looks : Looks old new
+  pub quiet : new.folder_faults ≡ old.folder_faults
+
+-- The first commands were answered, no call was made since then, and nothing was written. Some session fits the folder, so that both swap
+-- files are there; or the file was not opened. No file stays under a name under which one was made.
+pub record IsStressing (RanTo : Scene → Type 0) (count : ℕ) (old new : Scene) (did : Did) : Type 0 where
   pub rest : List Instruction
   pub first : stress_commands count ≡ commands_then did.past rest
   pub output : new.output ≡ old.output
   pub closing : did.closing ≡ NotBegun
-  pub kept : Looks old new ⊎ KeepsSwap (opened_file old stress_name) did new.folder
+  pub kept : IsUnopened old new did ⊎ (RanTo new × KeepsSwap (opened_file old stress_name) did new.folder)
   pub cleared : LeavesNoneMade old.folder new.folder
-
--- ---- the folder between two commands
-
--- whether no more than so many commands had begun, and nothing was written
-abbrev pub is_up_to : Scene → ℕ → Snapshot → Bool
-is_up_to start n moment = nat_le moment.answered (length start.answers + n) && nat_le (length moment.output) (length start.output)
-
--- the folder after so many commands, where these are the moments since the start, the newest first
-abbrev pub folder_after : Scene → List Snapshot → ℕ → Disk
-folder_after start [] n = start.folder
-folder_after start (moment ∷ older) n = if is_up_to start n moment then moment.folder else folder_after start older n
-
--- ---- how many calls on the folder had failed between two commands
 
 -- the scenes of the hosts of a type
 abbrev pub IsSceneOf : {H : Type 0} → (H → Scene) → Scene → Type 0
 IsSceneOf {H} scene_of scene = (host : H) × (scene ≡ scene_of host)
-
--- a moment after so many commands: one more had begun, or the line was written
-abbrev pub IsBehind : Scene → ℕ → Snapshot → Type 0
-IsBehind start n moment = (is_up_to start n moment ≡ false) ⊎ (moment.kind ≡ WroteOutput)
-
--- After so many commands, and before any call of the next one, so many calls on the folder had failed: some host of the type counts them,
--- and its trace has the moments up to there and no other.
-pub record HasCount (OfHost : Scene → Type 0) (start : Scene) (moments : List Snapshot) (n count : ℕ) : Type 0 where
-  pub scene : Scene
-  pub of_host : OfHost scene
-  pub later : List Snapshot
-  pub earlier : List Snapshot
-  pub moments_are : moments ≡ later ++ earlier
-  pub later_are : Each (IsBehind start n) later
-  pub earlier_are : Each (λ m. is_up_to start n m ≡ true) earlier
-  pub trace : scene.trace ≡ earlier ++ start.trace
-  pub is : scene.folder_faults ≡ count
-
--- A command that began in one folder and ended in another, where the calls that failed so far were so many: it found the one, its sync
--- is acknowledged as both have it, and a failed call that is answered happened in it.
-pub record HasEnds (names : Names) (turn : Turn) (first last : Disk) (before after : ℕ) : Type 0 where
-  pub found : turn.found ≡ Some first
-  pub flag : IfSome turn.sync (λ sync. IsFlag names turn.done first last sync.acknowledged)
-  pub later : before ≤ after
-  pub cause : turn.failed ≡ true → HasRisen before after
-
--- each of these commands did so, the first after k others; the calls that failed before it, and in all, were so many
-abbrev pub HasSteps : Names → (ℕ → Disk) → (ℕ → ℕ → Type 0) → ℕ → ℕ → List Turn → ℕ → Type 0
-HasSteps names folder counts k before [] all = before ≤ all
-HasSteps names folder counts k before (turn ∷ turns) all =
-    (after : ℕ) × counts (k + 1) after × HasEnds names turn (folder k) (folder (k + 1)) before after × HasSteps names folder counts (k + 1) after turns all
-
--- The commands from the first on, each in its own stretch of these moments.
-pub record HasStretches (OfHost : Scene → Type 0) (names : Names) (start : Scene) (moments : List Snapshot) (turns : List Turn) (all : ℕ) : Type 0 where
-  pub before : ℕ
-  pub counted : HasCount OfHost start moments 0 before
-  pub since : start.folder_faults ≤ before
-  pub each : HasSteps names (folder_after start moments) (HasCount OfHost start moments) 0 before turns all
 
 -- ---- the moments
 
@@ -184,9 +148,8 @@ pub record IsStressMoment (names : Names) (start : Scene) (document : Document) 
       ⊎ IsAtRemoval names start document turns line moment
 
 -- So it is at each moment from one scene to another, for the commands and the line that follows them.
-pub record IsStressSafe (OfHost : Scene → Type 0) (names : Names) (start now : Scene) (document : Document) (turns : List Turn) (line : List ℕ) : Type 0 where
+pub record IsStressSafe (names : Names) (start now : Scene) (document : Document) (turns : List Turn) (line : List ℕ) : Type 0 where
   pub moments : List Snapshot
   pub added : now.trace ≡ moments ++ start.trace
   pub safe : Each (IsStressMoment names start document turns line) moments
   pub spared : SameAt (is_foreign names) start.folder now.folder
-  pub steps : HasStretches OfHost names start moments turns now.folder_faults

@@ -1,43 +1,47 @@
--- Which calls of the stress mode failed, that no file stands under a name under which a swap file is made, and who may read what is made.
-use Rattle.std.specs.Prelude.{◌≡◌, ℕ, ◌+◌, true, false, List, [], ◌∷◌, ◌++◌, ⊤, length}
+-- The calls of the stress mode from one scene to the next: which of them failed, that no file stands under a name under which a swap file is
+-- made, and who may read what is made.
+use Rattle.std.specs.Prelude.{◌≡◌, ◌<◌, ℕ, true, List, [], ◌∷◌, ◌++◌, ⊤, length, IfSome}
+use Rattle.vs_faults.specs.Faults.{HasCause}
 use Rattle.vs_host.specs.Names.{names_of_file}
-use Rattle.vs_host.specs.Trace.{Snapshot, Each}
-use Rattle.vs_host.specs.World.{Scene}
+use Rattle.vs_host.specs.Trace.{GoesOn}
+use Rattle.vs_host.specs.World.{Scene, HasNewest}
+use Rattle.vs_host.specs.declared.names.Names.{Names}
+use Rattle.vs_disk.specs.Runs.{Inside}
 use Rattle.vs_pair.specs.Steps.{BothMoved}
-use Rattle.vs_top.specs.Calls.{StepCalls}
-use Rattle.vs_top.specs.History.{Past}
+use Rattle.vs_machine.specs.Machine.{took_effect}
+use Rattle.vs_safety.specs.Texts.{IsFlag}
+use Rattle.vs_session.specs.Session.{SessionState, is_fault, sync_of}
+use Rattle.vs_top.specs.Calls.{OpensClean, StepCalls}
+use Rattle.vs_top.specs.History.{CommandRun, Past}
 use Rattle.vs_top.specs.Readers.{MakesOwn}
-use Rattle.vs_top.specs.Stress.{IsBehind, is_up_to, stress_name, stress_state}
+use Rattle.vs_top.specs.Stress.{stress_name, stress_state}
 
--- A host of the type between two commands: its trace has the moments of the first so many and no other.
-pub record IsAfter (OfHost : Scene → Type 0) (start : Scene) (moments : List Snapshot) (n : ℕ) (scene : Scene) : Type 0 where
-  pub of_host : OfHost scene
-  pub later : List Snapshot
-  pub earlier : List Snapshot
-  pub moments_are : moments ≡ later ++ earlier
-  pub later_are : Each (IsBehind start n) later
-  pub earlier_are : Each (λ m. is_up_to start n m ≡ true) earlier
-  pub trace : scene.trace ≡ earlier ++ start.trace
+-- All calls from one scene to another, which is that of a host of the type, worked on the folder, after the clock had given these answers.
+pub record HasWorked (OfHost : Scene → Type 0) (answers : List ℕ) (old new : Scene) : Type 0 where
+  pub of_host : OfHost new
+  pub newest : HasNewest new
+  pub clock : new.answers ≡ old.answers ++ answers
+  pub output : new.output ≡ old.output
+  pub moments : GoesOn (Inside new (λ folder. ⊤)) old.trace new.trace
 
--- P holds of all calls of the command that comes after the first so many.
-pub record HasCalled (OfHost : Scene → Type 0) (P : Scene → Scene → Type 0) (start : Scene) (moments : List Snapshot) (n : ℕ) : Type 0 where
-  pub asked : Scene
-  pub ended : Scene
-  pub begins : IsAfter OfHost start moments n asked
-  pub ends : IsAfter OfHost start moments (n + 1) ended
-  pub holds : P asked ended
+-- A command that began in one scene and ended in another. Its sync is acknowledged as both have it, and a failed call that is answered
+-- happened in it.
+pub record StressStep (names : Names) (state : SessionState) (command : CommandRun) (old new : Scene) : Type 0 where
+  pub calls : StepCalls names state command old new
+  pub flag : IfSome (sync_of state command.instruction command.ended)
+      (λ sync. IsFlag names (took_effect command.ended.mark.outcome) old.folder new.folder sync.acknowledged)
+  pub cause : HasCause old.folder_faults new.folder_faults (is_fault command.ended.mark.outcome ≡ true)
 
--- The calls of each of these commands failed as its mark says.
-abbrev pub EachCalled : (Scene → Type 0) → Scene → List Snapshot → Past → Type 0
-EachCalled OfHost start moments [] = ⊤
-EachCalled OfHost start moments (last ∷ past) =
-    HasCalled OfHost (StepCalls (names_of_file stress_name) (stress_state start past) last) start moments (length past) × EachCalled OfHost start moments past
+-- These commands led from the start to this scene: the opening to a first one, and each command from the scene in which the one before
+-- ended to its own.
+abbrev pub HasRunTo : (Scene → Type 0) → Scene → Past → Scene → Type 0
+HasRunTo OfHost start [] now = HasWorked OfHost [] start now × OpensClean (names_of_file stress_name) start now
+HasRunTo OfHost start (last ∷ past) now =
+    (asked : Scene) × HasRunTo OfHost start past asked × HasWorked OfHost (last.ended.mark.at ∷ []) asked now
+    × StressStep (names_of_file stress_name) (stress_state start past) last asked now
 
--- So it is at the moments from one scene to another. At each of them, once a command has begun, no image has a file under a name under which
--- a swap file is made, and each file that was made is for its owner alone.
-pub record StressCalls (OfHost : Scene → Type 0) (start now : Scene) (past : Past) : Type 0 where
-  pub moments : List Snapshot
-  pub added : now.trace ≡ moments ++ start.trace
-  pub each : EachCalled OfHost start moments past
-  pub moved : Each (λ m. is_up_to start 0 m ≡ false → BothMoved (names_of_file stress_name) m.folder) moments
+-- At each moment once a command has begun no image has a file under a name under which a swap file is made, and at each each file that was
+-- made is for its owner alone.
+pub record StressCalls (start now : Scene) : Type 0 where
+  pub moved : GoesOn (λ m. length start.answers < m.answered → BothMoved (names_of_file stress_name) m.folder) start.trace now.trace
   pub readers : MakesOwn start now

@@ -1,8 +1,8 @@
 -- What is known of the stress mode between two of its commands.
-use Rattle.std.specs.Prelude.{ℕ, Bool, false, not, List, [], ◌≡◌, ◌+◌, ◌++◌, length, map, IsTrue}
+use Rattle.std.specs.Prelude.{ℕ, Bool, not, List, [], ◌≡◌, ◌+◌, ◌++◌, length, map, IsTrue}
 use Rattle.vs_host.specs.Names.{names_of_file}
 use Rattle.vs_host.specs.Trace.{Snapshot, Each}
-use Rattle.vs_host.specs.World.{Tells, Scene, HasNewest}
+use Rattle.vs_host.specs.World.{Tells, Scene}
 use Rattle.vs_disk.specs.Names.{SameAt}
 use Rattle.vs_pair.specs.Pair.{is_foreign}
 use Rattle.vs_pair.specs.Steps.{BothMoved}
@@ -15,13 +15,12 @@ use Rattle.vs_session.specs.Fits.{Fits}
 use Rattle.vs_session.specs.Made.{LeavesNoneMade}
 use Rattle.vs_stress.specs.Commands.{stress_commands}
 use Rattle.vs_top.specs.History.{Past, any_error, commands_then}
-use Rattle.vs_top.specs.Readers.{MakesOwn}
 use Rattle.vs_top.specs.Run.{KeepsMarks, opened_file}
-use Rattle.vs_top.specs.Stress.{TellsStress, HasStretches, IsBeforeLine, is_up_to, stress_history, stress_name, stress_state, stress_document, stress_turns}
-use Rattle.vs_top.specs.StressCalls.{EachCalled}
+use Rattle.vs_top.specs.Stress.{TellsStress, IsBeforeLine, stress_history, stress_name, stress_state, stress_document, stress_turns}
+use Rattle.vs_top.specs.StressCalls.{HasRunTo, StressCalls}
 use Rattle.vs_top.specs.Turns.{KeepsOpenFile}
 
--- These commands were answered, and nothing was written.
+-- These commands were answered, the last of them to this scene, and nothing was written.
 pub record StressTold (OfHost : Scene → Type 0) (old now : Scene) (session : Session) (marks : List Mark) (clean : Bool) (past : Past) : Type 0 where
   pub kept : KeepsMarks (opened_file old stress_name) marks past
   pub errors : clean ≡ not (any_error (opened_file old stress_name).state past)
@@ -30,15 +29,10 @@ pub record StressTold (OfHost : Scene → Type 0) (old now : Scene) (session : S
   pub added : now.trace ≡ moments ++ old.trace
   pub safe : Each (IsBeforeLine (names_of_file stress_name) old (stress_document old) (stress_turns old past)) moments
   pub spared : SameAt (is_foreign (names_of_file stress_name)) old.folder now.folder
-  pub steps : HasStretches OfHost (names_of_file stress_name) old moments (stress_turns old past) now.folder_faults
-  pub of_host : OfHost now
-  pub calls : EachCalled OfHost old moments past
+  pub ran : HasRunTo OfHost old past now
+  pub calls : StressCalls old now
   pub cleared : LeavesNoneMade old.folder now.folder
-  pub moved : Each (λ m. is_up_to old 0 m ≡ false → BothMoved (names_of_file stress_name) m.folder) moments
   pub here : BothMoved (names_of_file stress_name) now.folder
-  pub readers : MakesOwn old now
-  pub newest_at_start : HasNewest old
-  pub newest : HasNewest now
   pub output : now.output ≡ old.output
   pub answers : length now.answers ≡ length old.answers + length (stress_turns old past)
   pub counted : IsCounted output_count old now

@@ -43,7 +43,7 @@ returns-in_err-clean g c =
     let stop = c.in_err-clean.ensures.err.1 old
     (stress_opened (IsSceneOf g.H.World.scene) g.H.World.tells old mid c.open.ensures.acts (c.open.new.host, refl) c.in_ok-session.session c.in_ok-session.ensures.name.1
     (λ told has. elim (c.in_ok-session.ensures.barred told has) [ inl is ↦ absurd (cc) | inr more ↦ elim more [ inl is ↦ absurd (cc) | inr is ↦ absurd (cc) ] ])
-    (λ told. file_fits _ (c.in_ok-session.ensures.over told)) c.in_ok-session.ensures.fits (g.H.World.newest c.args.host.now) (g.H.World.newest c.open.new.host) c.in_ok-session.ensures.cleared c.in_ok-session.ensures.moved) in
+    (λ told. file_fits _ (c.in_ok-session.ensures.over told)) c.in_ok-session.ensures.fits (g.H.World.newest c.open.new.host) (c.in_ok-session.ensures.quiet (λ is. absurd (cc))) c.in_ok-session.ensures.cleared c.in_ok-session.ensures.moved) in
     stress_ending (IsSceneOf g.H.World.scene) g.H.World.tells c.args.count old (g.H.World.scene c.answer_all.new.host) c.answer_all.new.marks.items c.from_residual-in_err-clean.result _ _ c.from_residual-in_err-clean.ensures.1 c.in_err-clean.ensures.err.0
     (no_memory (IsSceneOf g.H.World.scene) g.H.World.tells old (g.H.World.scene c.answer_all.new.host) c.answer_all.new.session c.answer_all.new.marks.items stop.clean stop.commands stop.turn c.args.count stop.rest stop.first)
 
@@ -61,4 +61,4 @@ returns g c =
     (c.in_ok-clean.ensures.ok old
     (stress_opened (IsSceneOf g.H.World.scene) g.H.World.tells old mid c.open.ensures.acts (c.open.new.host, refl) c.in_ok-session.session c.in_ok-session.ensures.name.1
     (λ told has. elim (c.in_ok-session.ensures.barred told has) [ inl is ↦ absurd (cc) | inr more ↦ elim more [ inl is ↦ absurd (cc) | inr is ↦ absurd (cc) ] ])
-    (λ told. file_fits _ (c.in_ok-session.ensures.over told)) c.in_ok-session.ensures.fits (g.H.World.newest c.args.host.now) (g.H.World.newest c.open.new.host) c.in_ok-session.ensures.cleared c.in_ok-session.ensures.moved))
+    (λ told. file_fits _ (c.in_ok-session.ensures.over told)) c.in_ok-session.ensures.fits (g.H.World.newest c.open.new.host) (c.in_ok-session.ensures.quiet (λ is. absurd (cc))) c.in_ok-session.ensures.cleared c.in_ok-session.ensures.moved))
