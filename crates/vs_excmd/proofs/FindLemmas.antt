@@ -83,6 +83,22 @@ finds-line all literal new line (rewritten.New text) finds line_is new_is =
     subst IsLine (sym finds.1) (rebuilt-line line (length literal) new 0 (places_in all literal line) line_is new_is)
 finds-line all literal new line rewritten.TooLong finds line_is new_is = tt
 
+one-hit : (literal line : List ℕ) (place : ℕ) → matches line literal 0 ≡ place ∷ matches line literal (place + length literal) → has_match literal line ≡ true
+one-hit literal line place first = ap (λ places. not (is_empty places)) first ∙ ap not (not_empty place (matches line literal (place + length literal)))
+
+one-replaced : (literal new line : List ℕ) (place width : ℕ) → width ≡ length literal → matches line literal 0 ≡ place ∷ matches line literal (place + length literal) →
+    rebuilt line width new 0 (place ∷ []) ≡ replaced false literal new line
+one-replaced literal new line place width size first = rw (size, first) refl
+
+-- a line in which the first match is replaced
+pub finds-one : (literal new line : List ℕ) (place width : ℕ) (found : Rewritten) → width ≡ length literal → matches line literal 0 ≡ place ∷ matches line literal (place + length literal) →
+    Finds (λ _. true) (λ bytes. rebuilt bytes width new 0 (place ∷ [])) line found → Finds (has_match literal) (replaced false literal new) line found
+finds-one literal new line place width rewritten.Unmatched size first finds = absurd (false≢true (sym finds.0))
+finds-one literal new line place width (rewritten.New text) size first finds =
+    (one-hit literal line place first, finds.1 ∙ one-replaced literal new line place width size first, finds.2)
+finds-one literal new line place width rewritten.TooLong size first finds =
+    (one-hit literal line place first, subst (λ whole. MAX_LINE_BYTES < length whole) (one-replaced literal new line place width size first) finds.1)
+
 -- a substitution by the bytes that a pattern finds
 pub same-meaning : (pattern written : List ℕ) (all : Bool) (text : List (List ℕ)) (span : Span) (needle : List ℕ) (top count : ℕ) → needle ≡ literal_of pattern → top ≡ before span → count ≡ size_of span →
     substituted_lines (has_match needle) (replaced all needle (replaced_by (literal_of pattern) written)) top (cut_out text top count) ≡ substituted pattern written all text span

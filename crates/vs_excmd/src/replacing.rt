@@ -6,7 +6,7 @@ ghost use Rattle.vs_text.specs.Limits.{IsShort};
 ghost use Rattle.vs_text.specs.declared.TheConstants.{MAX_LINE_BYTES};
 ghost use Rattle.vs_exparse.specs.Pieces.{is_pattern, is_replacement, literal_of, replaced_by};
 ghost use Rattle.vs_excmd.specs.Rewriting.{Finds, StandsIn, is_too_long};
-ghost use Rattle.vs_excmd.specs.Substitute.{has_match, replaced};
+ghost use Rattle.vs_excmd.specs.Substitute.{has_match, rebuilt, replaced};
 
 use memchr::memmem::Finder;
 use std::alloc::{AllocError, Global};
@@ -144,7 +144,33 @@ fn put_piece(
     Ok(fits)
 }
 
+// The line with the match at this place replaced, which has this number of bytes.
+#[inline(always)]
+fn replace_one(
+    alloc: Global,
+    line: &[u8],
+    place: usize,
+    width: usize,
+    new: &[u8],
+) -> Result<Rewritten, AllocError>
+    requires within { place + width ≤ length line.now }
+    ensures finds { IfOk result (Finds (λ _. true) (λ bytes. rebuilt bytes width new.now 0 (place ∷ [])) line.now) }
+{
+    let before = line.split_at(place).0;
+    let after = line.split_at(place + width).1;
+    let kept = before.len() + after.len();
+    if kept > MAX_LINE_BYTES as usize || new.len() > MAX_LINE_BYTES as usize - kept {
+        return Ok(Rewritten::TooLong);
+    }
+    let mut out = Vec::with_capacity(alloc, kept + new.len())?;
+    out.extend_from_slice(before)?;
+    out.extend_from_slice(new)?;
+    out.extend_from_slice(after)?;
+    Ok(Rewritten::New(out))
+}
+
 /// The line with its first match replaced, or all matches. What stands in the place of a match is the same for each.
+#[inline(always)]
 pub(crate) fn rewrite_line(
     alloc: Global,
     line: &[u8],
@@ -159,12 +185,16 @@ pub(crate) fn rewrite_line(
         return Ok(Rewritten::Unmatched);
     };
     let width = finder.needle().len();
+    if !all {
+        let found = replace_one(alloc, line, first, width, new)?;
+        return Ok(found);
+    }
     let mut out = Vec::with_capacity(alloc, line.len().saturating_add(new.len()))?;
     if !put_piece(&mut out, line, 0, first, new)? {
         return Ok(Rewritten::TooLong);
     }
     let mut from = first + width;
-    'places: while all && let Some(place) = first_place(line, from, finder) {
+    'places: while let Some(place) = first_place(line, from, finder) {
         if !put_piece(&mut out, line, from, place, new)? {
             return Ok(Rewritten::TooLong);
         }

@@ -39,6 +39,7 @@ fn is_none(lines: &[Line]) -> bool
 }
 
 // Puts a line after others, and counts its bytes.
+#[inline(always)]
 fn push_counted(lines: &mut Vec<Line>, bytes: &mut u64, line: Line) -> Result<(), AllocError>
     requires { bytes.old + length line + 1 < 2 ^ 64 }
     ensures lines { OnOk result (lines.new.items ≡ lines.old.items ++ line ∷ []) }
@@ -52,6 +53,7 @@ fn push_counted(lines: &mut Vec<Line>, bytes: &mut u64, line: Line) -> Result<()
 
 impl Rewriting {
     // Adds a line, with what came of it.
+    #[inline(always)]
     fn add(&mut self, alloc: Global, line: &[u8], found: Rewritten) -> Result<(), AllocError>
         requires is_line { IsLine line.now }
         requires found_line { AreKept IsLine found }
