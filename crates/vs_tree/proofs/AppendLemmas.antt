@@ -11,6 +11,7 @@ use Rattle.vs_text.proofs.LineEnds.{IsText-lines_of, lines_of_last}
 use Rattle.vs_text.specs.declared.TheConstants.{MAX_LINES, MAX_TEXT_BYTES}
 use Rattle.vs_tree_shape.specs.Changes.{splice}
 use Rattle.vs_tree.specs.Appends.{IsFilled}
+use Rattle.vs_tree.specs.Packed.{IsWhole, stored_lines}
 use Rattle.vs_edit.specs.Splices.{splice as splice_text}
 use Rattle.vs_pages.specs.Maps.{Map}
 use Rattle.vs_tree.specs.declared.texts.Extent.{Extent}
@@ -42,13 +43,14 @@ short_both bytes line after is short =
     (All-head IsShort line (lines_of after) all, All-tail IsShort line (lines_of after) all)
 
 -- a run of one line
-pub filled_first : (bytes first after stored : List ℕ) (run : List (List ℕ)) → lines_of bytes ≡ first ∷ lines_of after → length after < length bytes → stored ≡ stored_line first → run ≡ stored ∷ [] → IsFilled bytes run after
-filled_first bytes first after stored run is less stored_is run_is = record {
+pub filled_first : (bytes first after stored : List ℕ) (run : List (List ℕ)) → lines_of bytes ≡ first ∷ lines_of after → length after < length bytes → stored ≡ stored_line first → run ≡ stored ∷ [] → (IsWhole bytes → IsWhole after) → IsFilled bytes run after
+filled_first bytes first after stored run is less stored_is run_is whole = record {
   put = first ∷ [];
   lines = is;
   stored = run_is ∙ ap (λ (x : List ℕ). x ∷ []) stored_is;
   some = omega arith;
   less = less;
+  whole = whole;
 }
 
 -- the lines after the first of some are not too long
@@ -83,7 +85,13 @@ filled_both bytes rest after run more all h k is = record {
   stored = is ∙ ap (λ (xs : List (List ℕ)). xs ++ more) h.stored ∙ ap (λ (xs : List (List ℕ)). map stored_line h.put ++ xs) k.stored ∙ sym (map-append stored_line h.put k.put);
   some = omega (arith, length-append h.put k.put, h.some);
   less = omega (arith, h.less, k.less);
+  whole = λ whole. k.whole (h.whole whole);
 }
+
+-- the stored lines are those of a run and of the rest
+pub stored_next : (bytes rest : List ℕ) (run : List (List ℕ)) → IsFilled bytes run rest → stored_lines bytes ≡ run ++ stored_lines rest
+stored_next bytes rest run filled =
+    ap (λ lines. map stored_line lines) filled.lines ∙ map-append stored_line filled.put (lines_of rest) ∙ ap (λ lines. lines ++ stored_lines rest) (sym filled.stored)
 
 -- where no bytes are left, all lines are put
 pub all_put : (bytes rest : List ℕ) (put : List (List ℕ)) → lines_of bytes ≡ put ++ lines_of rest → length rest ≡ 0 → put ≡ lines_of bytes

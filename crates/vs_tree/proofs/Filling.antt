@@ -10,6 +10,7 @@ use Rattle.vs_tree_blocks.specs.Runs.{IsFirstRun}
 use Rattle.vs_tree.specs.Appends.{IsFilled}
 use Rattle.vs_tree.specs.Reads.{exchanged_byte}
 use Rattle.vs_tree.proofs.Ended.{ended_lines, lines_plain}
+use Rattle.vs_tree.proofs.Packing.{whole_rest}
 
 abbrev HasNoZero : List ℕ → Type 0
 HasNoZero line = All (λ byte. byte ≢ 0) line
@@ -50,12 +51,18 @@ module _ (bytes stored : List ℕ) (count taken : ℕ) (run : List (List ℕ)) (
   run_some [] none = absurd (omega (arith, length-take-le taken bytes (omega (arith, few, within)), ap length front, ap (λ ls. length (file_of (map plain_line ls))) none))
   run_some (line ∷ lines) there = omega arith
 
+  cut : bytes ≡ file_of (map plain_line run) ++ drop taken bytes
+  cut = sym (take-append-drop taken bytes) ∙ ap (λ xs. xs ++ drop taken bytes) front
+
+  all_lines_are : lines_of bytes ≡ map plain_line run ++ lines_of (drop taken bytes)
+  all_lines_are = ap lines_of cut ∙ lines_of-file_then (map plain_line run) (drop taken bytes) (All-from_recursion IsLine (map plain_line run) (lines_plain run))
+
   pub filled_front : IsFilled bytes run (drop taken bytes)
   filled_front = record {
     put = map plain_line run;
-    lines = ap lines_of (sym (take-append-drop taken bytes) ∙ ap (λ xs. xs ++ drop taken bytes) front)
-        ∙ lines_of-file_then (map plain_line run) (drop taken bytes) (All-from_recursion IsLine (map plain_line run) (lines_plain run));
+    lines = all_lines_are;
     stored = stored_back run (recursion_from_All HasNoZero run first.no_zero);
     some = run_some run refl;
     less = omega (arith, length-drop taken bytes, few, within, some);
+    whole = whole_rest bytes (drop taken bytes) (map plain_line run) all_lines_are cut;
   }

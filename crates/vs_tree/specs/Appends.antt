@@ -5,6 +5,7 @@ use Rattle.vs_text.specs.Text.{lines_of, stored_line}
 use Rattle.vs_tree_blocks.specs.Cuts.{all_lines}
 use Rattle.vs_tree_blocks.specs.Fills.{AllFull}
 use Rattle.vs_tree.specs.Calls.{OfText, TurnsTree}
+use Rattle.vs_tree.specs.Packed.{ArePacked, IsWhole, stored_lines}
 use Rattle.vs_tree.specs.Texts.{HasText}
 use Rattle.vs_tree.specs.declared.texts.Extent.{Extent}
 use Rattle.vs_tree.specs.declared.walk.Root.{Root}
@@ -16,12 +17,15 @@ pub record IsFilled (bytes : List ℕ) (run : List (List ℕ)) (rest : List ℕ)
   pub stored : run ≡ map stored_line put
   pub some : 0 < length put
   pub less : length rest < length bytes
+  pub whole : IsWhole bytes → IsWhole rest
 
--- The same in runs that are put in together, no more than one edit takes.
+-- The same in runs that are put in together, no more than one edit takes. Where each line has its line end, no run has room for the
+-- line after it.
 pub record IsFilledBy (bytes : List ℕ) (runs : List (List (List ℕ))) (rest : List ℕ) : Type 0 where
   pub filled : IsFilled bytes (all_lines runs) rest
   pub few : length runs ≤ 126
   pub full : AllFull runs
+  pub packed : IsWhole bytes → ArePacked runs (stored_lines rest)
 
 -- The tree with this root then has these lines, in their stored form, after those that it had.
 abbrev pub AppendsTree : {P : Type 0} → Ghosts P → P → P → Root → Root → List (List ℕ) → Type 0

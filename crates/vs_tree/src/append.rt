@@ -2,22 +2,22 @@
 ghost use Rattle.std.specs.Prelude.{◌≡◌, ◌<◌, ◌≤◌, ◌+◌, ◌^◌, ◌++◌, ◌∷◌, All, IsErrOf, IsTrue, IfOk, OnErr, OnOk, length, take};
 ghost use Rattle.vs_pages.specs.Calls.{Continues, StopsAtFault};
 ghost use Rattle.vs_pages.specs.State.{history_of};
-ghost use Rattle.vs_text.specs.Text.{IsLine, bytes_of, lines_of, stored_line};
+ghost use Rattle.vs_text.specs.Text.{IsLine, bytes_of, lines_of};
 ghost use Rattle.vs_text.specs.Limits.{IsShort};
 ghost use Rattle.vs_text.specs.declared.TheConstants.{MAX_LINES, MAX_TEXT_BYTES};
-ghost use Rattle.vs_tree_blocks.specs.Edits.{IsStored};
 ghost use Rattle.vs_tree.specs.Appends.{Appends, AppendsTree, IsFilled, IsFilledBy};
 ghost use Rattle.vs_tree.specs.Calls.{StandsTree};
 ghost use Rattle.vs_tree.specs.Fills.{FillsRoot, FillsText, StaysFilled};
+ghost use Rattle.vs_tree.specs.Packed.{IsFullBefore, IsWhole, stored_lines};
 ghost use Rattle.vs_tree.specs.Texts.{Fits};
 
 use crate::copy::exchange_into;
-use crate::runs::{put_run, put_runs};
+use crate::runs::{line_run, put_run, put_runs};
 use crate::{Extent, LineTree, Root, splice_within};
 use std::alloc::{AllocError, Global};
 use vs_pages::{PAGE_SIZE, PageErr, Pages};
 use vs_pieces::EndedLines;
-use vs_text::{Line, ended_line, to_stored};
+use vs_text::{Line, ended_line};
 use vs_tree_blocks::{MOST_RUNS, Run};
 
 // The first line of some bytes, and the bytes after it. A rest without a line end is a line as well.
@@ -26,24 +26,13 @@ fn first_line(bytes: &[u8]) -> (&[u8], &[u8])
     ensures lines { lines_of bytes.now ≡ result.0.now ∷ lines_of result.1.now }
     ensures line { IsLine result.0.now }
     ensures less { length result.1.now < length bytes.now }
+    ensures whole { IsWhole bytes.now → IsWhole result.1.now }
     ensures short { All IsShort (lines_of bytes.now) → IsShort result.0.now × All IsShort (lines_of result.1.now) }
 {
     match ended_line(bytes) {
         Some(parts) => parts,
         None => bytes.split_at(bytes.len()),
     }
-}
-
-// Makes `into` the stored form of a line.
-fn store_bytes(line: &[u8], into: &mut Vec<u8>) -> Result<(), AllocError>
-    requires { IsShort line.now }
-    ensures stored { OnOk result (into.new.items ≡ stored_line line.now) }
-    ensures fits { OnOk result (IsStored into.new.items) }
-{
-    into.clear();
-    into.extend_from_slice(line)?;
-    to_stored(into);
-    Ok(())
 }
 
 // A run of the first lines of some bytes, and the bytes after them.
@@ -57,23 +46,27 @@ struct Filled<'b> {
 fn fill_line(alloc: Global, bytes: &[u8]) -> Result<Filled<'_>, AllocError>
     requires some { 0 < length bytes.now }
     requires short { All IsShort (lines_of bytes.now) }
-    ensures { IfOk result (λ filled. IsFilled bytes.now filled.run filled.rest.now) }
+    ensures filled { IfOk result (λ filled. IsFilled bytes.now filled.run filled.rest.now) }
+    ensures one { IfOk result (λ filled. length filled.run ≡ 1) }
 {
-    let mut stored = Vec::new(alloc);
     let (first, rest) = first_line(bytes);
-    store_bytes(first, &mut stored)?;
-    let run = Run::of(alloc, &stored)?;
+    let run = line_run(alloc, first)?;
     Ok(Filled { run, rest })
 }
 
 // The first lines of some bytes, in their stored form: as many as a page has room for, and at least one. `page` takes the bytes of
 // the lines on the way.
-fn fill_from<'b>(alloc: Global, bytes: &'b [u8], page: &mut [u8]) -> Result<Filled<'b>, AllocError>
+fn fill_from<'b>(
+    alloc: Global,
+    bytes: &'b [u8],
+    page: &mut [u8; PAGE_SIZE],
+) -> Result<Filled<'b>, AllocError>
     requires some { 0 < length bytes.now }
     requires short { All IsShort (lines_of bytes.now) }
-    ensures { IfOk result (λ filled. IsFilled bytes.now filled.run filled.rest.now) }
+    ensures filled { IfOk result (λ filled. IsFilled bytes.now filled.run filled.rest.now) }
+    ensures full { IfOk result (λ filled. IsWhole bytes.now → IsFullBefore filled.run (stored_lines filled.rest.now)) }
 {
-    let count = bytes.len().min(page.len());
+    let count = bytes.len().min(PAGE_SIZE);
     let stored = &mut page[..count];
     exchange_into(&bytes[..count], stored);
     let first = Run::of_first(alloc, stored)?;
@@ -97,7 +90,7 @@ struct FilledRuns<'b> {
 fn fill_runs<'b>(
     alloc: Global,
     bytes: &'b [u8],
-    page: &mut [u8],
+    page: &mut [u8; PAGE_SIZE],
 ) -> Result<FilledRuns<'b>, AllocError>
     requires some { 0 < length bytes.now }
     requires short { All IsShort (lines_of bytes.now) }
@@ -129,7 +122,7 @@ fn append_runs<P: Pages>(
     pages: &mut P,
     root: Root,
     bytes: &[u8],
-    page: &mut [u8],
+    page: &mut [u8; PAGE_SIZE],
 ) -> Result<Root, PageErr>
     requires valid { P.valid pages.old }
     requires short { All IsShort (lines_of bytes.now) }
@@ -162,7 +155,7 @@ fn append_lines<P: Pages>(
     pages: &mut P,
     root: Root,
     bytes: &[u8],
-    page: &mut [u8],
+    page: &mut [u8; PAGE_SIZE],
 ) -> Result<Root, PageErr>
     requires valid { P.valid pages.old }
     requires short { All IsShort (lines_of bytes.now) }

@@ -1,34 +1,54 @@
 // Runs of lines that are put into the tree or taken out, a data block at a time.
-ghost use Rattle.std.specs.Prelude.{◌≡◌, ◌≤◌, ◌<◌, ◌+◌, ◌*◌, ◌^◌, ◌⊎◌, ◌↔◌, IsTrue, [], All, IsErrOf, IfOk, OnOk, get_or, length, map, take};
+ghost use Rattle.std.specs.Prelude.{◌≡◌, ◌≤◌, ◌<◌, ◌+◌, ◌*◌, ◌^◌, ◌⊎◌, ◌↔◌, ◌∷◌, IsTrue, [], All, IsErrOf, IfOk, OnOk, drop, length, map, take};
 ghost use Rattle.vs_pages.specs.Calls.{Continues, StopsAtFault};
 ghost use Rattle.vs_text.specs.Text.{bytes_of, stored_line};
 ghost use Rattle.vs_text.specs.Limits.{IsShort};
 ghost use Rattle.vs_text.specs.declared.TheConstants.{MAX_LINES};
 ghost use Rattle.vs_tree_shape.specs.Changes.{splice};
 ghost use Rattle.vs_tree_blocks.specs.Cuts.{all_lines};
-ghost use Rattle.vs_tree_blocks.specs.Edits.{FitsPage, IsStored};
+ghost use Rattle.vs_tree_blocks.specs.Edits.{FitsPage};
 ghost use Rattle.vs_data.specs.Blocks.{space_of};
 ghost use Rattle.vs_tree.specs.Calls.{CountsRun, IsUntouched, OfTree, StandsTree, TurnsTree, WorksAtMost, WorksWhere};
 ghost use Rattle.vs_tree_blocks.specs.Fills.{AllFull};
 ghost use Rattle.vs_tree.specs.Fills.{FillsRoot, IsMild, LosesEntry, StaysFilled, ThinsRoot};
-ghost use Rattle.vs_tree.specs.Runs.{ExchangesLine, exchanged_lines, with_lines, without_lines, run_of};
+ghost use Rattle.vs_tree.specs.Packed.{ArePacked, IsFullBefore};
+ghost use Rattle.vs_tree.specs.Runs.{ExchangesLine, HasFirst, exchanged_lines, with_lines, without_lines, run_of};
 
+use crate::copy::exchange_into;
 use crate::{Root, edit_tree};
 use std::alloc::{AllocError, Global};
-use vs_pages::{PageErr, Pages};
+use vs_pages::{PAGE_SIZE, PageErr, Pages};
 use vs_text::{Line, to_stored};
 use vs_tree_blocks::{Edit, MOST_RUNS, Run};
 
-// Makes `into` the stored form of a line.
-fn store_line(line: &Line, into: &mut Vec<u8>) -> Result<(), AllocError>
+/// The run of one line.
+pub fn line_run(alloc: Global, line: &[u8]) -> Result<Run, AllocError>
     requires { IsShort line.now }
-    ensures stored { OnOk result (into.new.items ≡ stored_line line.now) }
-    ensures fits { OnOk result (IsStored into.new.items) }
+    ensures { IfOk result (λ run. run ≡ stored_line line.now ∷ []) }
 {
-    into.clear();
-    into.extend_from_slice(line.bytes())?;
-    to_stored(into);
-    Ok(())
+    let mut stored = Vec::new(alloc);
+    stored.extend_from_slice(line)?;
+    to_stored(&mut stored);
+    Run::of(alloc, &stored)
+}
+
+// Copies the first of some lines to the begin of a page in their stored form, each with a zero byte after it: as many as the page has
+// room for. Gives the number of their bytes.
+fn store_lines(lines: &[Line], page: &mut [u8; PAGE_SIZE]) -> usize
+    ensures { HasFirst lines.now page.new result }
+{
+    let mut used = 0;
+    'lines: for line in lines {
+        let bytes = line.bytes();
+        if PAGE_SIZE - used <= bytes.len() {
+            return used;
+        }
+        let end = used + bytes.len();
+        exchange_into(bytes, &mut page[used..end]);
+        page[end] = 0;
+        used = end + 1;
+    }
+    used
 }
 
 // The first lines of some, in their stored form: as many as a page has room for, and at least one.
@@ -38,18 +58,15 @@ fn fill_run(alloc: Global, lines: &[Line]) -> Result<Run, AllocError>
     ensures run { IfOk result (λ run. run ≡ map stored_line (take (length run) lines.now)) }
     ensures some { IfOk result (λ run. 0 < length run) }
     ensures within { IfOk result (λ run. length run ≤ length lines.now) }
-    ensures full { IfOk result (λ run. length run < length lines.now → 4072 < space_of run + (length (get_or lines.now (length run) []) + 5)) }
+    ensures full { IfOk result (λ run. IsFullBefore run (map stored_line (drop (length run) lines.now))) }
 {
-    let mut bytes = Vec::new(alloc);
-    store_line(&lines[0], &mut bytes)?;
-    let mut run = Run::of(alloc, &bytes)?;
-    'lines: for line in &lines[1..] {
-        store_line(line, &mut bytes)?;
-        if !run.push(&bytes) {
-            return Ok(run);
-        }
+    let mut page = [0; PAGE_SIZE];
+    let used = store_lines(lines, &mut page);
+    let first = Run::of_first(alloc, &page[..used])?;
+    if first.taken == 0 {
+        return line_run(alloc, lines[0].bytes());
     }
-    Ok(run)
+    Ok(first.run)
 }
 
 /// Puts a run of lines before the line at `at`, or last where `at` is the number of lines, and gives the root then.
@@ -96,6 +113,7 @@ fn fill_runs(alloc: Global, lines: &[Line]) -> Result<Filled, AllocError>
     ensures runs { IfOk result (λ filled. all_lines filled.runs.items ≡ map stored_line (take filled.lines lines.now)) }
     ensures few { IfOk result (λ filled. length filled.runs.items ≤ 126) }
     ensures full { IfOk result (λ filled. AllFull filled.runs.items) }
+    ensures packed { IfOk result (λ filled. ArePacked filled.runs.items (map stored_line (drop filled.lines lines.now))) }
     ensures some { IfOk result (λ filled. 0 < filled.lines) }
     ensures within { IfOk result (λ filled. filled.lines ≤ length lines.now) }
 {

@@ -23,18 +23,18 @@ returns-then-is_empty-clause-lines g c =
 
 pub put_run-requires-clause-few : goal.put_run-requires-clause-few
 put_run-requires-clause-few g c =
-    let filled = c.in-Ok.ensures in
+    let filled = c.in-Ok.ensures.filled in
     omega (arith, ap length filled.stored, length-map filled.put stored_line, ap length filled.lines, length-append filled.put (lines_of c.in-Ok.filled.rest.now), c.requires.small)
 
 pub append_runs-requires-clause-short : goal.append_runs-requires-clause-short
-append_runs-requires-clause-short g c = short_after c.args.bytes.now c.in-Ok.filled.rest.now c.in-Ok.ensures.put c.in-Ok.ensures.lines c.requires.short
+append_runs-requires-clause-short g c = short_after c.args.bytes.now c.in-Ok.filled.rest.now c.in-Ok.ensures.filled.put c.in-Ok.ensures.filled.lines c.requires.short
 
 pub append_runs-requires-clause-some : goal.append_runs-requires-clause-some
 append_runs-requires-clause-some g c = omega (arith, c.in_ok-now.ensures.lines, c.requires.some)
 
 pub append_runs-requires-clause-small : goal.append_runs-requires-clause-small
 append_runs-requires-clause-small g c =
-    let filled = c.in-Ok.ensures in
+    let filled = c.in-Ok.ensures.filled in
     omega (arith, c.in_ok-now.ensures.lines, ap length filled.stored, length-map filled.put stored_line, ap length filled.lines, length-append filled.put (lines_of c.in-Ok.filled.rest.now), c.requires.small)
 
 pub append_runs-requires-clause-there : goal.append_runs-requires-clause-there
@@ -43,7 +43,7 @@ append_runs-requires-clause-there g c = λ told. let r = c.requires.there told i
 pub returns-clause-put : goal.returns-clause-put
 returns-clause-put g c = IfOk-weaker c.append_runs.result _ _
     (λ (now : Root) put told lines has.
-    let filled = c.in-Ok.ensures in
+    let filled = c.in-Ok.ensures.filled in
     subst (λ (xs : List (List ℕ)). HasTree (g.P.Pages.shows c.append_runs.new.pages).present now xs)
     (first_then_rest lines filled.put c.in-Ok.filled.run c.args.bytes.now c.in-Ok.filled.rest.now c.args.root.lines (sym has.count) filled.stored filled.lines)
     (put told (splice lines c.args.root.lines 0 c.in-Ok.filled.run) (c.in_ok-now.ensures.put told lines has)))
@@ -52,7 +52,7 @@ returns-clause-put g c = IfOk-weaker c.append_runs.result _ _
 pub returns-clause-lines : goal.returns-clause-lines
 returns-clause-lines g c = IfOk-weaker c.append_runs.result _ _
     (λ (now : Root) count.
-    let filled = c.in-Ok.ensures in
+    let filled = c.in-Ok.ensures.filled in
     omega (arith, count, c.in_ok-now.ensures.lines, ap length filled.stored, length-map filled.put stored_line, ap length filled.lines, length-append filled.put (lines_of c.in-Ok.filled.rest.now)))
     c.append_runs.ensures.lines
 
@@ -65,6 +65,6 @@ returns-then-is_empty-clause-filled g c = λ least one half told f. f
 pub returns-clause-filled : goal.returns-clause-filled
 returns-clause-filled g c = IfOk-weaker c.append_runs.result _ _
     (λ (now : Root) stays least one half told f.
-    let filled = c.in-Ok.ensures in
+    let filled = c.in-Ok.ensures.filled in
     stays least one half told (c.in_ok-now.ensures.filled (omega (arith, filled.some, ap length filled.stored, length-map filled.put stored_line)) least one half told f))
     c.append_runs.ensures.filled

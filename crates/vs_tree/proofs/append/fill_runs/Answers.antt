@@ -7,7 +7,9 @@ use Rattle.vs_tree_blocks.specs.Cuts.{all_lines}
 use Rattle.vs_tree_blocks.specs.Fills.{AllFull}
 use Rattle.vs_tree_blocks.proofs.CutsLemmas.{all_both}
 use Rattle.vs_tree.specs.Appends.{IsFilled}
-use Rattle.vs_tree.proofs.AppendLemmas.{filled_both, short_after}
+use Rattle.vs_tree.specs.Packed.{stored_lines}
+use Rattle.vs_tree.proofs.AppendLemmas.{filled_both, short_after, stored_next}
+use Rattle.vs_tree.proofs.Packing.{packed_next, packed_one}
 use Rattle.vs_tree.proofs.append.fill_runs.Goals as goal
 
 pub runs-init : goal.runs-init
@@ -15,10 +17,11 @@ runs-init c =
     let first = c.in-Ok.first in
     let is : all_lines c.in_ok-runs.runs.items ≡ first.run = ap all_lines c.in_ok-runs.ensures.items ∙ append-nil first.run in
     record {
-      filled = subst (λ (run : List (List ℕ)). IsFilled c.args.bytes.now run first.rest.now) (sym is) c.in-Ok.ensures;
+      filled = subst (λ (run : List (List ℕ)). IsFilled c.args.bytes.now run first.rest.now) (sym is) c.in-Ok.ensures.filled;
       few = omega (arith, ap length c.in_ok-runs.ensures.items);
-      full = subst (λ (bs : List (List (List ℕ))). AllFull bs) (sym c.in_ok-runs.ensures.items) (omega (arith, c.in-Ok.ensures.some, ap length c.in-Ok.ensures.stored, length-map c.in-Ok.ensures.put stored_line), tt);
-      short = short_after c.args.bytes.now first.rest.now c.in-Ok.ensures.put c.in-Ok.ensures.lines c.requires.short;
+      full = subst (λ (bs : List (List (List ℕ))). AllFull bs) (sym c.in_ok-runs.ensures.items) (omega (arith, c.in-Ok.ensures.filled.some, ap length c.in-Ok.ensures.filled.stored, length-map c.in-Ok.ensures.filled.put stored_line), tt);
+      packed = λ whole. packed_one c.in_ok-runs.runs.items first.run (stored_lines first.rest.now) c.in_ok-runs.ensures.items (c.in-Ok.ensures.full whole);
+      short = short_after c.args.bytes.now first.rest.now c.in-Ok.ensures.filled.put c.in-Ok.ensures.filled.lines c.requires.short;
     }
 
 pub runs-preserved : goal.runs-preserved
@@ -29,9 +32,11 @@ runs-preserved c =
     let items : c.push.new.self.items ≡ before ++ filled.run ∷ [] = c.in_ok-push.ensures.items in
     let is : all_lines c.push.new.self.items ≡ all_lines before ++ filled.run = ap all_lines items ∙ all_both before (filled.run ∷ []) ∙ ap (λ (ls : List (List ℕ)). all_lines before ++ ls) (append-nil filled.run) in
     record {
-      filled = filled_both c.args.bytes.now c.runs.rest.now filled.rest.now (all_lines before) filled.run (all_lines c.push.new.self.items) inv.filled c.in-Ok-fill_from.ensures is;
+      filled = filled_both c.args.bytes.now c.runs.rest.now filled.rest.now (all_lines before) filled.run (all_lines c.push.new.self.items) inv.filled c.in-Ok-fill_from.ensures.filled is;
       few = omega (arith, ap length items, length-append before (filled.run ∷ []));
       full = subst (λ (bs : List (List (List ℕ))). AllFull bs) (sym items) (each-append (λ (ls : List (List ℕ)). 1 ≤ length ls) before (filled.run ∷ []) inv.full
-          (omega (arith, c.in-Ok-fill_from.ensures.some, ap length c.in-Ok-fill_from.ensures.stored, length-map c.in-Ok-fill_from.ensures.put stored_line), tt));
-      short = short_after c.runs.rest.now filled.rest.now c.in-Ok-fill_from.ensures.put c.in-Ok-fill_from.ensures.lines inv.short;
+          (omega (arith, c.in-Ok-fill_from.ensures.filled.some, ap length c.in-Ok-fill_from.ensures.filled.stored, length-map c.in-Ok-fill_from.ensures.filled.put stored_line), tt));
+      packed = λ whole. packed_next before c.push.new.self.items filled.run (stored_lines c.runs.rest.now) (stored_lines filled.rest.now) items (inv.packed whole)
+          (stored_next c.runs.rest.now filled.rest.now filled.run c.in-Ok-fill_from.ensures.filled) (c.in-Ok-fill_from.ensures.full (inv.filled.whole whole));
+      short = short_after c.runs.rest.now filled.rest.now c.in-Ok-fill_from.ensures.filled.put c.in-Ok-fill_from.ensures.filled.lines inv.short;
     }

@@ -2,6 +2,7 @@ use Rattle.std.proofs.Common.{refl, sym, ap, subst, ◌∙◌, arith}
 use Rattle.vs_text.specs.Text.{IsLine, lines_of}
 use Rattle.vs_text.proofs.LineEnds.{lines_of-line}
 use Rattle.vs_tree.proofs.AppendLemmas.{short_both, whole_front, whole_line}
+use Rattle.vs_tree.proofs.Packing.{whole_first, whole_none}
 use Rattle.vs_tree.proofs.append.first_line.Goals as goal
 
 pub returns-in-Some-clause-lines : goal.returns-in-Some-clause-lines
@@ -24,3 +25,10 @@ returns-in-None-clause-less c = omega (arith, c.split_at.ensures.back_len, c.req
 pub returns-in-None-clause-short : goal.returns-in-None-clause-short
 returns-in-None-clause-short c = short_both c.args.bytes.now c.split_at.result.0.now c.split_at.result.1.now
     (whole_line c.args.bytes.now c.split_at.result.0.now c.split_at.result.1.now _ c.requires c.in-None.ensures refl c.split_at.ensures.front c.split_at.ensures.back_len)
+
+pub returns-in-Some-clause-whole : goal.returns-in-Some-clause-whole
+returns-in-Some-clause-whole c = whole_first c.args.bytes.now c.in-Some.parts.0.now c.in-Some.parts.1.now c.in-Some.ensures.1
+    (ap lines_of c.in-Some.ensures.1 ∙ lines_of-line c.in-Some.parts.0.now c.in-Some.parts.1.now c.in-Some.ensures.0)
+
+pub returns-in-None-clause-whole : goal.returns-in-None-clause-whole
+returns-in-None-clause-whole c = λ whole. whole_none c.split_at.result.1.now (omega (arith, c.split_at.ensures.back_len, c.requires))
