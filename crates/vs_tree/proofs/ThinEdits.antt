@@ -14,12 +14,12 @@ use Rattle.vs_tree_shape.proofs.Steps.{above_down, above_entries, filled_inside,
 use Rattle.vs_tree_shape.proofs.Thins.{back_cases, thin_leaves, two_lines, walk_next, walk_none}
 use Rattle.vs_tree_blocks.specs.Blocks.{tree_format, entries_at}
 use Rattle.vs_tree_blocks.specs.Edits.{added_by, most_entries}
-use Rattle.vs_tree_blocks.specs.Fills.{HasFullRuns, IsThinned, entries_lost}
+use Rattle.vs_tree_blocks.specs.Fills.{RunsHaveLines, IsThinned, entries_lost}
 use Rattle.vs_tree_blocks.specs.declared.edit.Edit.{Edit}
 use Rattle.vs_tree_blocks.specs.declared.edit.Edit.TheVariants.{Before, After, Behind, Remove}
 
 -- an edit below which an entry may go takes lines out
-pub lost_full : (edit : Edit) → entries_lost edit ≡ 1 → HasFullRuns edit
+pub lost_full : (edit : Edit) → entries_lost edit ≡ 1 → RunsHaveLines edit
 lost_full (Before run) lost = absurd (omega (arith, lost))
 lost_full (After run) lost = absurd (omega (arith, lost))
 lost_full (Behind runs) lost = absurd (omega (arith, lost))

@@ -3,7 +3,7 @@ use Rattle.std.specs.Prelude.{◌≡◌, ◌<◌, ◌≤◌, ℕ, List, ◌++◌
 use Rattle.vs_pages.specs.declared.pages.Pages.{Ghosts}
 use Rattle.vs_text.specs.Text.{lines_of, stored_line}
 use Rattle.vs_tree_blocks.specs.Cuts.{all_lines}
-use Rattle.vs_tree_blocks.specs.Fills.{AllFull}
+use Rattle.vs_tree_blocks.specs.Fills.{AllHaveLines}
 use Rattle.vs_tree.specs.Calls.{OfText, TurnsTree}
 use Rattle.vs_tree.specs.Packed.{ArePacked, IsWhole, stored_lines}
 use Rattle.vs_tree.specs.Texts.{HasText}
@@ -24,7 +24,7 @@ pub record IsFilled (bytes : List ℕ) (run : List (List ℕ)) (rest : List ℕ)
 pub record IsFilledBy (bytes : List ℕ) (runs : List (List (List ℕ))) (rest : List ℕ) : Type 0 where
   pub filled : IsFilled bytes (all_lines runs) rest
   pub few : length runs ≤ 126
-  pub full : AllFull runs
+  pub each : AllHaveLines runs
   pub packed : IsWhole bytes → ArePacked runs (stored_lines rest)
 
 -- The tree with this root then has these lines, in their stored form, after those that it had.

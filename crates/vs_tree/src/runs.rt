@@ -9,7 +9,7 @@ ghost use Rattle.vs_tree_blocks.specs.Cuts.{all_lines};
 ghost use Rattle.vs_tree_blocks.specs.Edits.{FitsPage};
 ghost use Rattle.vs_data.specs.Blocks.{space_of};
 ghost use Rattle.vs_tree.specs.Calls.{CountsRun, IsUntouched, OfTree, StandsTree, TurnsTree, WorksAtMost, WorksWhere};
-ghost use Rattle.vs_tree_blocks.specs.Fills.{AllFull};
+ghost use Rattle.vs_tree_blocks.specs.Fills.{AllHaveLines};
 ghost use Rattle.vs_tree.specs.Fills.{FillsRoot, IsMild, LosesEntry, StaysFilled, ThinsRoot};
 ghost use Rattle.vs_tree.specs.Packed.{ArePacked, IsFullBefore};
 ghost use Rattle.vs_tree.specs.Runs.{ExchangesLine, HasFirst, exchanged_lines, with_lines, without_lines, run_of};
@@ -112,7 +112,7 @@ fn fill_runs(alloc: Global, lines: &[Line]) -> Result<Filled, AllocError>
     requires short { All IsShort lines.now }
     ensures runs { IfOk result (λ filled. all_lines filled.runs.items ≡ map stored_line (take filled.lines lines.now)) }
     ensures few { IfOk result (λ filled. length filled.runs.items ≤ 126) }
-    ensures full { IfOk result (λ filled. AllFull filled.runs.items) }
+    ensures each { IfOk result (λ filled. AllHaveLines filled.runs.items) }
     ensures packed { IfOk result (λ filled. ArePacked filled.runs.items (map stored_line (drop filled.lines lines.now))) }
     ensures some { IfOk result (λ filled. 0 < filled.lines) }
     ensures within { IfOk result (λ filled. filled.lines ≤ length lines.now) }
@@ -149,7 +149,7 @@ pub fn put_runs<P: Pages>(
     ensures put { IfOk result (λ now. TurnsTree P.Pages pages.old pages.new root now (λ lines. splice lines at 0 (all_lines runs.now))) }
     ensures lines { IfOk result (λ now. now.lines ≡ root.lines + length (all_lines runs.now)) }
     ensures higher { IfOk result (λ now. now.height ≤ root.height + 1) }
-    ensures filled { IfOk result (λ now. AllFull runs.now → StaysFilled P.Pages pages.old pages.new root now) }
+    ensures filled { IfOk result (λ now. AllHaveLines runs.now → StaysFilled P.Pages pages.old pages.new root now) }
     ensures kept { Continues P.Pages pages.old pages.new }
     ensures cause { StopsAtFault P.Pages (IsErrOf result PageErr.Failed) pages.old pages.new }
 {

@@ -14,7 +14,7 @@ use Rattle.vs_tree_shape.proofs.Shapes.{each-append, each-take, each-drop}
 use Rattle.vs_tree_blocks.specs.Blocks.{tree_format, entries_at}
 use Rattle.vs_tree_blocks.specs.Cuts.{part, parted, spread, cut_at, split_with, blocks_with, half_for, half_of, has_room, front_of, back_of, room_in}
 use Rattle.vs_tree_blocks.specs.Edits.{blocks_after, blocks_put}
-use Rattle.vs_tree_blocks.specs.Fills.{AllFull, HasFullRuns}
+use Rattle.vs_tree_blocks.specs.Fills.{AllHaveLines, RunsHaveLines}
 use Rattle.vs_tree_blocks.specs.Pointers.{LeadTo, HasRoot, halves_of, levels_more, pointer_blocks}
 use Rattle.vs_tree_blocks.specs.Runs.{lines_within}
 use Rattle.vs_tree_blocks.specs.Writes.{HasBlocks}
@@ -29,46 +29,46 @@ either : {X : Type 0} (P : X → Type 0) (b : Bool) (x y : X) → P x → P y �
 either P true x y a b = a
 either P false x y a b = b
 
-part_full : (lines : List (List ℕ)) → AllFull (part lines)
+part_full : (lines : List (List ℕ)) → AllHaveLines (part lines)
 part_full [] = tt
 part_full (line ∷ lines) = (omega arith, tt)
 
-spread_full : (lines : List (List ℕ)) (at : ℕ) (runs : List (List (List ℕ))) → AllFull runs → AllFull (spread lines at runs)
+spread_full : (lines : List (List ℕ)) (at : ℕ) (runs : List (List (List ℕ))) → AllHaveLines runs → AllHaveLines (spread lines at runs)
 spread_full lines at runs full =
     let P : List (List ℕ) → Type 0 = λ run. 1 ≤ length run in
     each-append P (part (take at lines)) (runs ++ part (drop at lines)) (part_full (take at lines)) (each-append P runs (part (drop at lines)) full (part_full (drop at lines)))
 
-parted_full : (lines : List (List ℕ)) (at : ℕ) (run : List (List ℕ)) → 1 ≤ length run → AllFull (parted lines at run)
+parted_full : (lines : List (List ℕ)) (at : ℕ) (run : List (List ℕ)) → 1 ≤ length run → AllHaveLines (parted lines at run)
 parted_full lines at run some =
     let P : List (List ℕ) → Type 0 = λ run. 1 ≤ length run in
     each-append P (part (take at lines)) (run ∷ part (drop at lines)) (part_full (take at lines)) (some, part_full (drop at lines))
 
-cut_full : (side : Option Half) (half : ℕ) (lines : List (List ℕ)) (at : ℕ) (run : List (List ℕ)) → 1 ≤ length run → AllFull (cut_at side half lines at run)
+cut_full : (side : Option Half) (half : ℕ) (lines : List (List ℕ)) (at : ℕ) (run : List (List ℕ)) → 1 ≤ length run → AllHaveLines (cut_at side half lines at run)
 cut_full None half lines at run some = parted_full lines at run some
 cut_full (Some side) half lines at run some =
     let P : List (List ℕ) → Type 0 = λ run. 1 ≤ length run in
     each-append P (part (front_of side half lines at run)) (part (back_of side half lines at run)) (part_full (front_of side half lines at run)) (part_full (back_of side half lines at run))
 
-with_full : (room : ℕ) (lines : List (List ℕ)) (at : ℕ) (run : List (List ℕ)) → 1 ≤ length run → AllFull (blocks_with room lines at run)
+with_full : (room : ℕ) (lines : List (List ℕ)) (at : ℕ) (run : List (List ℕ)) → 1 ≤ length run → AllHaveLines (blocks_with room lines at run)
 with_full room lines at run some =
     let is : splice lines at 0 run ≡ (take at lines ++ run) ++ drop (at + 0) lines = refl in
     let whole : 1 ≤ length (splice lines at 0 run) = omega (arith, some, ap length is, length-append (take at lines ++ run) (drop (at + 0) lines), length-append (take at lines) run) in
-    either (λ (bs : List (List (List ℕ))). AllFull bs) (has_room room lines run) (splice lines at 0 run ∷ []) (split_with room lines at run) (whole, tt)
+    either (λ (bs : List (List (List ℕ))). AllHaveLines bs) (has_room room lines run) (splice lines at 0 run ∷ []) (split_with room lines at run) (whole, tt)
     (cut_full (half_for room (half_of (length lines)) lines at run) (half_of (length lines)) lines at run some)
 
-put_full : (pages : ℕ) (bytes : List ℕ) (at : ℕ) (run : List (List ℕ)) → 1 ≤ length run → AllFull (blocks_put pages bytes at run)
+put_full : (pages : ℕ) (bytes : List ℕ) (at : ℕ) (run : List (List ℕ)) → 1 ≤ length run → AllHaveLines (blocks_put pages bytes at run)
 put_full pages bytes at run some =
-    either (λ (bs : List (List (List ℕ))). AllFull bs) (Rattle.std.specs.Prelude.nat_le pages 1) (blocks_with (room_in bytes) (lines_within bytes) at run) (parted (lines_within bytes) at run)
+    either (λ (bs : List (List (List ℕ))). AllHaveLines bs) (Rattle.std.specs.Prelude.nat_le pages 1) (blocks_with (room_in bytes) (lines_within bytes) at run) (parted (lines_within bytes) at run)
     (with_full (room_in bytes) (lines_within bytes) at run some) (parted_full (lines_within bytes) at run some)
 
 -- each block in place of a data block has lines
-pub after_full : (pages : ℕ) (bytes : List ℕ) (at : ℕ) (edit : Edit) (gone : ℕ) → HasFullRuns edit → AllFull (blocks_after pages bytes at edit gone)
+pub after_full : (pages : ℕ) (bytes : List ℕ) (at : ℕ) (edit : Edit) (gone : ℕ) → RunsHaveLines edit → AllHaveLines (blocks_after pages bytes at edit gone)
 after_full pages bytes at (Before run) gone full = put_full pages bytes at run.now full
 after_full pages bytes at (After run) gone full = put_full pages bytes (at + 1) run.now full
 after_full pages bytes at (Behind runs) gone full = spread_full (lines_within bytes) (at + 1) runs.now full
 after_full pages bytes at (Remove most) gone full = part_full (splice (lines_within bytes) at gone [])
 
-leaves_filled : (least : ℕ) (us : List Leaf) (blocks : List (List (List ℕ))) → map (λ (u : Leaf). u.lines) us ≡ blocks → AllFull blocks → AllByRecursion (λ (u : Leaf). IsFilled least zero u) us
+leaves_filled : (least : ℕ) (us : List Leaf) (blocks : List (List (List ℕ))) → map (λ (u : Leaf). u.lines) us ≡ blocks → AllHaveLines blocks → AllByRecursion (λ (u : Leaf). IsFilled least zero u) us
 leaves_filled least [] blocks is full = tt
 leaves_filled least (u ∷ us) [] is full = absurd (cc)
 leaves_filled least (u ∷ us) (b ∷ blocks) is full =
@@ -76,7 +76,7 @@ leaves_filled least (u ∷ us) (b ∷ blocks) is full =
     let tail : map (λ (u : Leaf). u.lines) us ≡ blocks = cc in
     (omega (arith, full.0, ap length head), leaves_filled least us blocks tail full.1)
 
-pub blocks_filled : (m n : Map) (old : ℕ → ℕ) (least : ℕ) (blocks : List (List (List ℕ))) (entries : List Entry) → HasBlocks m n old blocks entries → AllFull blocks → AllFilledBelow tree_format n least 0 entries
+pub blocks_filled : (m n : Map) (old : ℕ → ℕ) (least : ℕ) (blocks : List (List (List ℕ))) (entries : List Entry) → HasBlocks m n old blocks entries → AllHaveLines blocks → AllFilledBelow tree_format n least 0 entries
 blocks_filled m n old least blocks entries has full =
     subst (λ (es : List Entry). AllFilledBelow tree_format n least 0 es) (sym has.entries_are)
     (each_below tree_format n least 0 (λ t is f. filled_below tree_format n least 0 t is f) has.leaves has.replaces.each (leaves_filled least has.leaves blocks has.blocks_are full))

@@ -12,15 +12,15 @@ use Rattle.vs_tree_blocks.specs.declared.edit.Edited.{Edited}
 use Rattle.vs_tree_blocks.specs.declared.edit.Edit.TheVariants.{Before, After, Behind, Remove}
 
 -- each of these runs has lines
-abbrev pub AllFull : List (List (List ℕ)) → Type 0
-AllFull runs = AllByRecursion (λ (run : List (List ℕ)). 1 ≤ length run) runs
+abbrev pub AllHaveLines : List (List (List ℕ)) → Type 0
+AllHaveLines runs = AllByRecursion (λ (run : List (List ℕ)). 1 ≤ length run) runs
 
 -- each run that an edit puts in has lines
-abbrev pub HasFullRuns : Edit → Type 0
-HasFullRuns (Before run) = 1 ≤ length run.now
-HasFullRuns (After run) = 1 ≤ length run.now
-HasFullRuns (Behind runs) = AllFull runs.now
-HasFullRuns (Remove most) = ⊤
+abbrev pub RunsHaveLines : Edit → Type 0
+RunsHaveLines (Before run) = 1 ≤ length run.now
+RunsHaveLines (After run) = 1 ≤ length run.now
+RunsHaveLines (Behind runs) = AllHaveLines runs.now
+RunsHaveLines (Remove most) = ⊤
 
 -- how many entries a pointer block may lose by an edit below it
 abbrev pub entries_lost : Edit → ℕ
@@ -32,7 +32,7 @@ entries_lost (Remove most) = 1
 -- From a tree whose pointer blocks have so many entries at least the edit leads to one whose blocks have so many. Each half of a
 -- block that is too full has 64.
 pub record KeepsFilled (edit : Edit) (before after : ℕ) : Type 0 where
-  pub full : HasFullRuns edit
+  pub lines : RunsHaveLines edit
   pub some : 1 ≤ after
   pub half : after ≤ 64
   pub sum : before ≡ after + entries_lost edit

@@ -4,7 +4,7 @@ use Rattle.std.proofs.lemmas.List.{length-map}
 use Rattle.vs_text.specs.Text.{lines_of, stored_line}
 use Rattle.vs_pages.proofs.Steps.{Continues-none, Continues-trans}
 use Rattle.vs_tree_blocks.specs.Cuts.{all_lines}
-use Rattle.vs_tree_blocks.specs.Fills.{AllFull}
+use Rattle.vs_tree_blocks.specs.Fills.{AllHaveLines}
 use Rattle.vs_tree.specs.Runs.{HasTree}
 use Rattle.vs_tree.proofs.AppendLemmas.{all_put, cut_more, end_more, short_after}
 use Rattle.vs_tree.proofs.append.append_runs.Goals as goal
@@ -48,7 +48,7 @@ runs-preserved g c =
           subst (λ (xs : List (List ℕ)). HasTree (g.P.Pages.shows c.put_runs.new.pages).present c.in_ok-now.now xs) (end_more lines inv.put filled.put (all_lines c.deref.result.now) c.runs.now.lines (sym before.count) (run_is ∙ filled.stored))
           (c.in_ok-now.ensures.put told (lines ++ map stored_line inv.put) before);
       lines = omega (arith, c.in_ok-now.ensures.lines, inv.lines, ap length run_is, ap length filled.stored, length-map filled.put stored_line, length-append inv.put filled.put);
-      filled = λ least one half told f. c.in_ok-now.ensures.filled (subst (λ (bs : List (List (List ℕ))). AllFull bs) (sym c.deref.ensures.value) c.in-Ok.ensures.full) least one half told (inv.filled least one half told f);
+      filled = λ least one half told f. c.in_ok-now.ensures.filled (subst (λ (bs : List (List (List ℕ))). AllHaveLines bs) (sym c.deref.ensures.value) c.in-Ok.ensures.each) least one half told (inv.filled least one half told f);
       kept = Continues-trans g.met.P.Pages.stays_on inv.kept c.put_runs.ensures.kept;
       faults = c.in_ok-now.ensures.cause.none (λ failed. absurd (cc)) ∙ inv.faults;
     }

@@ -4,7 +4,7 @@ use Rattle.std.proofs.lemmas.List.{length-map}
 use Rattle.vs_text.specs.Text.{stored_line}
 use Rattle.vs_tree_shape.proofs.Shapes.{each-append}
 use Rattle.vs_tree_blocks.specs.Cuts.{all_lines}
-use Rattle.vs_tree_blocks.specs.Fills.{AllFull}
+use Rattle.vs_tree_blocks.specs.Fills.{AllHaveLines}
 use Rattle.vs_tree_blocks.proofs.CutsLemmas.{all_both}
 use Rattle.vs_tree.specs.Appends.{IsFilled}
 use Rattle.vs_tree.specs.Packed.{stored_lines}
@@ -19,7 +19,7 @@ runs-init c =
     record {
       filled = subst (λ (run : List (List ℕ)). IsFilled c.args.bytes.now run first.rest.now) (sym is) c.in-Ok.ensures.filled;
       few = omega (arith, ap length c.in_ok-runs.ensures.items);
-      full = subst (λ (bs : List (List (List ℕ))). AllFull bs) (sym c.in_ok-runs.ensures.items) (omega (arith, c.in-Ok.ensures.filled.some, ap length c.in-Ok.ensures.filled.stored, length-map c.in-Ok.ensures.filled.put stored_line), tt);
+      each = subst (λ (bs : List (List (List ℕ))). AllHaveLines bs) (sym c.in_ok-runs.ensures.items) (omega (arith, c.in-Ok.ensures.filled.some, ap length c.in-Ok.ensures.filled.stored, length-map c.in-Ok.ensures.filled.put stored_line), tt);
       packed = λ whole. packed_one c.in_ok-runs.runs.items first.run (stored_lines first.rest.now) c.in_ok-runs.ensures.items (c.in-Ok.ensures.full whole);
       short = short_after c.args.bytes.now first.rest.now c.in-Ok.ensures.filled.put c.in-Ok.ensures.filled.lines c.requires.short;
     }
@@ -34,7 +34,7 @@ runs-preserved c =
     record {
       filled = filled_both c.args.bytes.now c.runs.rest.now filled.rest.now (all_lines before) filled.run (all_lines c.push.new.self.items) inv.filled c.in-Ok-fill_from.ensures.filled is;
       few = omega (arith, ap length items, length-append before (filled.run ∷ []));
-      full = subst (λ (bs : List (List (List ℕ))). AllFull bs) (sym items) (each-append (λ (ls : List (List ℕ)). 1 ≤ length ls) before (filled.run ∷ []) inv.full
+      each = subst (λ (bs : List (List (List ℕ))). AllHaveLines bs) (sym items) (each-append (λ (ls : List (List ℕ)). 1 ≤ length ls) before (filled.run ∷ []) inv.each
           (omega (arith, c.in-Ok-fill_from.ensures.filled.some, ap length c.in-Ok-fill_from.ensures.filled.stored, length-map c.in-Ok-fill_from.ensures.filled.put stored_line), tt));
       packed = λ whole. packed_next before c.push.new.self.items filled.run (stored_lines c.runs.rest.now) (stored_lines filled.rest.now) items (inv.packed whole)
           (stored_next c.runs.rest.now filled.rest.now filled.run c.in-Ok-fill_from.ensures.filled) (c.in-Ok-fill_from.ensures.full (inv.filled.whole whole));

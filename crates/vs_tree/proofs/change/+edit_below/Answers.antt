@@ -149,7 +149,7 @@ returns-then-depth-eq0-clause-filled g t c = IfOk-weaker c.edit_data.result _ _
     let there = above_there _ _ c.args.top c.args.depth c.args.at (c.requires.there told) in
     let n : Map = (g.P.Pages.shows c.edit_data.new.pages).present in
     let all : AllFilledBelow tree_format n least 0 after.entries.items =
-    blocks_filled _ n _ least _ after.entries.items (cuts told there.0 there.1) (after_full c.args.top.pages there.0 c.args.at c.args.edit after.removed.lines keeps.full) in
+    blocks_filled _ n _ least _ after.entries.items (cuts told there.0 there.1) (after_full c.args.top.pages there.0 c.args.at c.args.edit after.removed.lines keeps.lines) in
     (subst (λ (d : ℕ). AllFilledBelow tree_format n least d after.entries.items) (sym none) all, λ some. absurd (omega (arith, some, none))))
     c.edit_data.ensures.blocks
 
@@ -206,7 +206,7 @@ returns-clause-thins g t c = λ told takes filled deep two entry rest walk.
     let size = ap lines_below c.deref.ensures.value in
     let less : lines_below new + 1 ≡ place.entry.lines = omega (arith, c.in_ok-below.ensures.lines, takes.1, none) in
     let left : lines_below all + 1 ≡ c.args.top.lines = omega (arith, less, sum, size, replaced_below of.entries c.deref.result.now place.index place.entry (place_got of.entries c.args.at place of.is)) in
-    let keeps : KeepsFilled c.args.edit 32 31 = record { full = lost_full c.args.edit takes.0; some = omega arith; half = omega arith; sum = omega (arith, takes.0) } in
+    let keeps : KeepsFilled c.args.edit 32 31 = record { lines = lost_full c.args.edit takes.0; some = omega arith; half = omega arith; sum = omega (arith, takes.0) } in
     let child = filled_at tree_format m 32 (depth - 1) of.entries c.args.at place of.is old.1 in
     let below = c.in_ok-below.ensures.filled told 32 31 keeps (subst (λ (f : Map). HasFilledBelow tree_format f 32 (depth - 1) place.entry) (sym (c.find_below.ensures.kept.present told)) child) in
     let thin : IsThinAbove n (depth - 1) c.args.at (steps_back entry rest) c.args.top.lines all =

@@ -183,7 +183,7 @@ returns-clause-thins g c = λ takes told filled two entry rest walk.
     let less : lines_below new + 1 ≡ place.entry.lines = omega (arith, c.in_ok-below.ensures.lines, takes.1, none) in
     let left : lines_below all + 1 ≡ c.args.root.lines =
     omega (arith, less, sum, ap lines_below c.deref.ensures.value, replaced_below of.entries c.deref.result.now place.index place.entry (place_got of.entries c.args.at place of.is)) in
-    let keeps : KeepsFilled c.args.edit 32 31 = record { full = lost_full c.args.edit takes.0; some = omega arith; half = omega arith; sum = omega (arith, takes.0) } in
+    let keeps : KeepsFilled c.args.edit 32 31 = record { lines = lost_full c.args.edit takes.0; some = omega arith; half = omega arith; sum = omega (arith, takes.0) } in
     let to_child : HasFilledBelow tree_format m 32 (height - 1) place.entry → HasFilledBelow tree_format m1 32 c.saturating_sub.result place.entry =
     λ kid. subst (λ (d : ℕ). HasFilledBelow tree_format m1 32 d place.entry) (sym c.saturating_sub.ensures) (subst (λ (f : Map). HasFilledBelow tree_format f 32 (height - 1) place.entry) (sym (c.find_below.ensures.kept.present told)) kid) in
     let child = filled_at tree_format m 32 (height - 1) of.entries c.args.at place of.is old in

@@ -3,7 +3,7 @@ use Rattle.std.proofs.Common.{◌≡◌, ℕ, ◌+◌, ◌-◌, ◌≤◌, List,
 use Rattle.vs_text.specs.Text.{stored_line}
 use Rattle.vs_tree_shape.proofs.Shapes.{each-append}
 use Rattle.vs_tree_blocks.specs.Cuts.{all_lines}
-use Rattle.vs_tree_blocks.specs.Fills.{AllFull}
+use Rattle.vs_tree_blocks.specs.Fills.{AllHaveLines}
 use Rattle.vs_tree_blocks.proofs.CutsLemmas.{all_both}
 use Rattle.vs_tree_blocks.proofs.RemovedLemmas.{drop_both}
 use Rattle.vs_tree.specs.Packed.{IsFullBefore}
@@ -18,7 +18,7 @@ runs-init c =
     record {
       runs = ap all_lines c.in_ok-runs.ensures.items ∙ append-nil first ∙ c.in_ok-first.ensures.run ∙ ap (λ (n : ℕ). map stored_line (take n c.args.lines.now)) size;
       few = omega (arith, ap length c.in_ok-runs.ensures.items);
-      full = subst (λ (bs : List (List (List ℕ))). AllFull bs) (sym c.in_ok-runs.ensures.items) (omega (arith, c.in_ok-first.ensures.some), tt);
+      each = subst (λ (bs : List (List (List ℕ))). AllHaveLines bs) (sym c.in_ok-runs.ensures.items) (omega (arith, c.in_ok-first.ensures.some), tt);
       packed = packed_one c.in_ok-runs.runs.items first _ c.in_ok-runs.ensures.items (subst (λ n. IsFullBefore first (map stored_line (drop n c.args.lines.now))) size c.in_ok-first.ensures.full);
       some = omega (arith, size, c.in_ok-first.ensures.some);
       within = omega (arith, size, c.in_ok-first.ensures.within);
@@ -41,7 +41,7 @@ runs-preserved c =
     record {
       runs = is ∙ run_next lines (all_lines before) run i c.len-in-runs.result inv.within inv.runs run_is;
       few = omega (arith, ap length items, length-append before (run ∷ []));
-      full = subst (λ (bs : List (List (List ℕ))). AllFull bs) (sym items) (each-append (λ (ls : List (List ℕ)). 1 ≤ length ls) before (run ∷ []) inv.full (omega (arith, c.in_ok-run.ensures.some), tt));
+      each = subst (λ (bs : List (List (List ℕ))). AllHaveLines bs) (sym items) (each-append (λ (ls : List (List ℕ)). 1 ≤ length ls) before (run ∷ []) inv.each (omega (arith, c.in_ok-run.ensures.some), tt));
       packed = packed_next before c.push.new.self.items run (map stored_line (drop i lines)) _ items inv.packed (lines_next lines run i c.len-in-runs.result inv.within run_is) full;
       some = omega (arith, inv.some);
       within = omega (arith, c.in_ok-run.ensures.within, size, inv.within, ap length all);

@@ -8,7 +8,7 @@ use Rattle.vs_pages.proofs.Steps.{Continues-trans}
 use Rattle.vs_tree_shape.proofs.Working.{works_none}
 use Rattle.vs_tree_shape.specs.Changes.{splice}
 use Rattle.vs_tree_blocks.specs.Cuts.{all_lines}
-use Rattle.vs_tree_blocks.specs.Fills.{AllFull}
+use Rattle.vs_tree_blocks.specs.Fills.{AllHaveLines}
 use Rattle.vs_tree.specs.Runs.{HasTree, with_lines}
 use Rattle.vs_tree.proofs.Rounds.{put_next, rest_of, with_none}
 use Rattle.vs_tree_blocks.proofs.EntriesLemmas.{take_all}
@@ -86,7 +86,7 @@ runs-preserved g c =
       lines = omega (arith, c.in_ok-now.ensures.lines, inv.lines, size);
       higher = omega (arith, inv.higher, c.in_ok-now.ensures.higher, c.in_ok-filled.ensures.some);
       more = inv.more;
-      filled = λ least one half told f. c.in_ok-now.ensures.filled (subst (λ (bs : List (List (List ℕ))). AllFull bs) (sym c.deref.ensures.value) c.in_ok-filled.ensures.full) least one half told (inv.filled least one half told f);
+      filled = λ least one half told f. c.in_ok-now.ensures.filled (subst (λ (bs : List (List (List ℕ))). AllHaveLines bs) (sym c.deref.ensures.value) c.in_ok-filled.ensures.each) least one half told (inv.filled least one half told f);
       works = λ told lines has small. absurd (omega (arith, small.0, inv.some, c.runs-test.true));
       kept = Continues-trans g.met.P.Pages.stays_on inv.kept c.put_runs.ensures.kept;
       faults = c.in_ok-now.ensures.cause.none (λ failed. absurd (cc)) ∙ inv.faults;

@@ -61,7 +61,7 @@ rounds-preserved g c =
           let here : HasFilledRoot tree_format (g.P.Pages.shows c.rounds.pages).present (suc least) c.rounds.now.height =
           subst (λ (h : ℕ). HasFilledRoot tree_format (g.P.Pages.shows c.rounds.pages).present (suc least) h) (sym inv.level)
           (subst (λ (m : Map). HasFilledRoot tree_format m (suc least) c.args.root.height) (sym ((inv.start none).1 told).0) f) in
-          c.in_ok-after.ensures.filled (suc least) least (record { full = tt; some = low; half = half; sum = omega arith }) left told here;
+          c.in_ok-after.ensures.filled (suc least) least (record { lines = tt; some = low; half = half; sum = omega arith }) left told here;
       thins = λ one some told f two entry rest walk.
           let none : c.rounds.removed ≡ 0 = omega (arith, one, c.rounds-test.true) in
           let m : Map = (g.P.Pages.shows c.rounds.pages).present in
