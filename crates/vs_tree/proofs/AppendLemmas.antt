@@ -1,5 +1,5 @@
 -- Lines that are taken from the front of some bytes, run by run, are all lines of these bytes in the end.
-use Rattle.std.proofs.Common.{◌≡◌, ℕ, ◌+◌, ◌<◌, ◌≤◌, List, [], ◌∷◌, ◌++◌, length, map, take, All, refl, sym, ap, subst, ◌∙◌, arith, append-nil, append_assoc, length-append}
+use Rattle.std.proofs.Common.{◌≡◌, ℕ, ◌+◌, ◌-◌, ◌<◌, ◌≤◌, List, [], ◌∷◌, ◌++◌, length, map, take, All, refl, sym, ap, subst, ◌∙◌, arith, append-nil, append_assoc, length-append}
 use Rattle.std.proofs.lemmas.Grind.{common_steps}
 use Rattle.std.proofs.lemmas.Bool.Decides.{nat_tests}
 use Rattle.std.proofs.lemmas.List.{map-append}
@@ -140,3 +140,7 @@ begun m extent bytes text first none size spliced =
 pub first_then : (text : List (List ℕ)) (bytes line first after : List ℕ) → length text ≡ 0 → first ≡ line → lines_of bytes ≡ line ∷ lines_of after → (first ∷ []) ++ lines_of after ≡ text ++ lines_of bytes
 first_then [] bytes line first after none is lines = ap (λ (l : List ℕ). l ∷ lines_of after) is ∙ sym lines
 first_then (x ∷ text) bytes line first after none is lines = absurd (omega arith)
+
+-- the tree of the text without lines has one line more than the text
+pub lead_few : (lines : ℕ) → lines ≡ 0 → 1 ≤ tree_lines lines - lines
+lead_few lines none = grind (arith, nat_tests)

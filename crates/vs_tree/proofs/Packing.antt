@@ -29,7 +29,7 @@ full_drop (suc n) run [] full = tt
 full_drop zero run (line ∷ lines) full = omega (arith, length-map line stored_byte, full (omega arith))
 full_drop (suc n) run (line ∷ lines) full = full_drop n run lines (λ lt. full (omega arith))
 
-packed_both : (runs more : List (List (List ℕ))) (after : List (List ℕ)) → ArePacked runs (all_lines more ++ after) → ArePacked more after → ArePacked (runs ++ more) after
+pub packed_both : (runs more : List (List (List ℕ))) (after : List (List ℕ)) → ArePacked runs (all_lines more ++ after) → ArePacked more after → ArePacked (runs ++ more) after
 packed_both [] more after one two = two
 packed_both (run ∷ runs) more after one two = (
   subst (λ lines. IsFullBefore run lines) (sym (ap (λ lines. lines ++ after) (all_both runs more) ∙ append_assoc (all_lines runs) (all_lines more) after)) one.0,

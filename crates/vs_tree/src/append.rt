@@ -8,7 +8,7 @@ ghost use Rattle.vs_text.specs.declared.TheConstants.{MAX_LINES, MAX_TEXT_BYTES}
 ghost use Rattle.vs_tree.specs.Appends.{Appends, AppendsTree, IsFilled, IsFilledBy};
 ghost use Rattle.vs_tree.specs.Calls.{StandsTree};
 ghost use Rattle.vs_tree.specs.Fills.{FillsRoot, FillsText, StaysFilled};
-ghost use Rattle.vs_tree.specs.Packed.{IsFullBefore, IsWhole, stored_lines};
+ghost use Rattle.vs_tree.specs.Packed.{IsFullBefore, IsPageful, IsWhole, PacksBehind, PacksText, PacksTree, stored_lines};
 ghost use Rattle.vs_tree.specs.Texts.{Fits};
 
 use crate::copy::exchange_into;
@@ -65,6 +65,7 @@ fn fill_from<'b>(
     requires short { All IsShort (lines_of bytes.now) }
     ensures filled { IfOk result (λ filled. IsFilled bytes.now filled.run filled.rest.now) }
     ensures full { IfOk result (λ filled. IsWhole bytes.now → IsFullBefore filled.run (stored_lines filled.rest.now)) }
+    ensures page { IfOk result (λ filled. IsPageful filled.run) }
 {
     let count = bytes.len().min(PAGE_SIZE);
     let stored = &mut page[..count];
@@ -132,6 +133,7 @@ fn append_runs<P: Pages>(
     ensures put { IfOk result (λ now. AppendsTree P.Pages pages.old pages.new root now (lines_of bytes.now)) }
     ensures lines { IfOk result (λ now. now.lines ≡ root.lines + length (lines_of bytes.now)) }
     ensures filled { IfOk result (λ now. StaysFilled P.Pages pages.old pages.new root now) }
+    ensures packed { IfOk result (λ now. IsWhole bytes.now → PacksBehind P.Pages pages.old pages.new root now (stored_lines bytes.now)) }
     ensures kept { Continues P.Pages pages.old pages.new }
     ensures cause { StopsAtFault P.Pages (IsErrOf result PageErr.Failed) pages.old pages.new }
 {
@@ -165,6 +167,7 @@ fn append_lines<P: Pages>(
     ensures put { IfOk result (λ now. AppendsTree P.Pages pages.old pages.new root now (lines_of bytes.now)) }
     ensures lines { IfOk result (λ now. now.lines ≡ root.lines + length (lines_of bytes.now)) }
     ensures filled { IfOk result (λ now. StaysFilled P.Pages pages.old pages.new root now) }
+    ensures packed { IfOk result (λ now. IsWhole bytes.now → PacksTree P.Pages pages.new now.height root.lines (stored_lines bytes.now)) }
     ensures kept { Continues P.Pages pages.old pages.new }
     ensures cause { StopsAtFault P.Pages (IsErrOf result PageErr.Failed) pages.old pages.new }
 {
@@ -198,6 +201,7 @@ fn append_text<P: Pages>(
     ensures lines { IfOk result (λ extent. extent.lines ≡ now.lines + length (lines_of bytes.now)) }
     ensures bytes { IfOk result (λ extent. extent.bytes ≡ now.bytes + size) }
     ensures filled { IfOk result (λ extent. FillsRoot P.Pages pages.old pages.new 32 now.height 32 extent.height) }
+    ensures packed { IfOk result (λ extent. IsWhole bytes.now → PacksTree P.Pages pages.new extent.height now.lines (stored_lines bytes.now)) }
     ensures kept { Continues P.Pages pages.old pages.new }
     ensures cause { StopsAtFault P.Pages (IsErrOf result PageErr.Failed) pages.old pages.new }
 {
@@ -230,6 +234,7 @@ fn begin_text<P: Pages>(
     ensures lines { IfOk result (λ extent. extent.lines ≡ now.lines + length (lines_of bytes.now)) }
     ensures few { IfOk result (λ extent. extent.bytes ≤ MAX_TEXT_BYTES) }
     ensures filled { IfOk result (λ extent. FillsRoot P.Pages pages.old pages.new 32 now.height 32 extent.height) }
+    ensures packed { IfOk result (λ extent. IsWhole bytes.now → PacksText P.Pages pages.new now extent (lines_of bytes.now)) }
     ensures kept { Continues P.Pages pages.old pages.new }
     ensures cause { StopsAtFault P.Pages (IsErrOf result PageErr.Failed) pages.old pages.new }
 {
@@ -257,6 +262,7 @@ fn append_within<P: Pages>(
     ensures lines { IfOk result (λ extent. extent.lines ≡ now.lines + length lines.now) }
     ensures few { IfOk result (λ extent. extent.bytes ≤ MAX_TEXT_BYTES) }
     ensures filled { IfOk result (λ extent. FillsRoot P.Pages pages.old pages.new 32 now.height 32 extent.height) }
+    ensures packed { IfOk result (λ extent. PacksText P.Pages pages.new now extent lines.now) }
     ensures kept { Continues P.Pages pages.old pages.new }
     ensures cause { StopsAtFault P.Pages (IsErrOf result PageErr.Failed) pages.old pages.new }
 {
@@ -290,6 +296,7 @@ impl LineTree {
         ensures fits { Fits P.tells (P.shows pages.new).present self.new.present }
         ensures lines { OnOk result (self.new.present.lines ≡ self.old.present.lines + length lines.now) }
         ensures filled { OnOk result (FillsText P.Pages pages.old pages.new self.old.present self.new.present) }
+        ensures packed { OnOk result (PacksText P.Pages pages.new self.old.present self.new.present lines.now) }
         ensures before { self.new.committed ≡ self.old.committed }
         ensures same { OnErr result (self.new ≡ self.old) }
         ensures back { OnErr result (IsTrue P.tells → history_of (P.shows pages.new) ≡ history_of (P.shows pages.old)) }

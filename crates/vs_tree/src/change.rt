@@ -5,9 +5,10 @@ ghost use Rattle.vs_pages.specs.Calls.{Continues, StopsAtFault};
 ghost use Rattle.vs_tree_shape.specs.Places.{lines_below};
 ghost use Rattle.vs_tree_shape.specs.Changes.{HasLineBelow};
 ghost use Rattle.vs_tree_blocks.specs.Blocks.{tree_format, FitsFields};
-ghost use Rattle.vs_tree_blocks.specs.Edits.{added_by, EditsBelow, EditsFew, IsEdit, IsOnePageEdit, MayTake, RemovesFew, most_entries, most_worked};
+ghost use Rattle.vs_tree_blocks.specs.Edits.{added_by, CutsBelow, EditsBelow, EditsFew, IsEdit, IsOnePageEdit, MayTake, RemovesFew, most_entries, most_worked};
 ghost use Rattle.vs_tree_blocks.specs.Fills.{FillsBelow, TakesLine, ThinsBelow};
 ghost use Rattle.vs_tree.specs.Calls.{EditsTree, EditsTreeFew, StandsTree, WorksAtMost};
+ghost use Rattle.vs_tree.specs.DataBlocks.{CutsTree};
 ghost use Rattle.vs_tree.specs.Fills.{FillsTree, ThinsRoot};
 
 use crate::Root;
@@ -35,6 +36,7 @@ fn edit_below<P: Pages>(
     requires there { IsTrue P.tells → HasLineBelow tree_format (P.shows pages.old).present top depth at }
     ensures wrote { IfOk result (EditsBelow P.Pages pages.old pages.new top depth at edit.entry) }
     ensures may_take { IfOk result (λ after. MayTake edit.entry after.removed.lines) }
+    ensures cuts { IfOk result (CutsBelow P.Pages pages.old pages.new top depth at edit.entry) }
     ensures fields { IfOk result (λ after. AllByRecursion FitsFields after.entries.items) }
     ensures few { IfOk result (λ after. length after.entries.items ≤ 128) }
     ensures single { IfOk result (λ after. length after.entries.items ≤ most_entries edit.entry) }
@@ -80,6 +82,7 @@ pub fn edit_tree<P: Pages>(
     requires edit { IsEdit edit }
     requires there { StandsTree P.Pages pages.old root }
     ensures edited { IfOk result (EditsTree P.Pages pages.old pages.new root at edit.entry) }
+    ensures cuts { IfOk result (CutsTree P.Pages pages.old pages.new root at edit.entry) }
     ensures lines { IfOk result (λ after. after.root.lines + after.removed.lines ≡ root.lines + added_by edit.entry) }
     ensures may_take { IfOk result (λ after. MayTake edit.entry after.removed.lines) }
     ensures higher { IfOk result (λ after. after.root.height ≤ root.height + 1) }

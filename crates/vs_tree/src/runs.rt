@@ -1,5 +1,5 @@
 // Runs of lines that are put into the tree or taken out, a data block at a time.
-ghost use Rattle.std.specs.Prelude.{◌≡◌, ◌≤◌, ◌<◌, ◌+◌, ◌*◌, ◌^◌, ◌⊎◌, ◌↔◌, ◌∷◌, IsTrue, [], All, IsErrOf, IfOk, OnOk, drop, length, map, take};
+ghost use Rattle.std.specs.Prelude.{◌≡◌, ◌≤◌, ◌<◌, ◌+◌, ◌-◌, ◌*◌, ◌^◌, ◌⊎◌, ◌↔◌, ◌∷◌, IsTrue, [], All, IsErrOf, IfOk, OnOk, drop, length, map, take};
 ghost use Rattle.vs_pages.specs.Calls.{Continues, StopsAtFault};
 ghost use Rattle.vs_text.specs.Text.{bytes_of, stored_line};
 ghost use Rattle.vs_text.specs.Limits.{IsShort};
@@ -10,8 +10,9 @@ ghost use Rattle.vs_tree_blocks.specs.Edits.{FitsPage};
 ghost use Rattle.vs_data.specs.Blocks.{space_of};
 ghost use Rattle.vs_tree.specs.Calls.{CountsRun, IsUntouched, OfTree, StandsTree, TurnsTree, WorksAtMost, WorksWhere};
 ghost use Rattle.vs_tree_blocks.specs.Fills.{AllHaveLines};
+ghost use Rattle.vs_tree.specs.DataBlocks.{KeepsBefore, SpreadsTree};
 ghost use Rattle.vs_tree.specs.Fills.{FillsRoot, IsMild, LosesEntry, StaysFilled, ThinsRoot};
-ghost use Rattle.vs_tree.specs.Packed.{ArePacked, IsFullBefore};
+ghost use Rattle.vs_tree.specs.Packed.{ArePacked, HoldsRun, IsFullBefore, IsPageful, PacksTree};
 ghost use Rattle.vs_tree.specs.Runs.{ExchangesLine, HasFirst, exchanged_lines, with_lines, without_lines, run_of};
 
 use crate::copy::exchange_into;
@@ -59,6 +60,7 @@ fn fill_run(alloc: Global, lines: &[Line]) -> Result<Run, AllocError>
     ensures some { IfOk result (λ run. 0 < length run) }
     ensures within { IfOk result (λ run. length run ≤ length lines.now) }
     ensures full { IfOk result (λ run. IsFullBefore run (map stored_line (drop (length run) lines.now))) }
+    ensures page { IfOk result IsPageful }
 {
     let mut page = [0; PAGE_SIZE];
     let used = store_lines(lines, &mut page);
@@ -87,6 +89,7 @@ pub fn put_run<P: Pages>(
     ensures lines { IfOk result (λ now. now.lines ≡ root.lines + length run.now) }
     ensures higher { IfOk result (λ now. now.height ≤ root.height + 1) }
     ensures filled { IfOk result (λ now. 1 ≤ length run.now → StaysFilled P.Pages pages.old pages.new root now) }
+    ensures holds { IfOk result (λ now. 1 ≤ length run.now → HoldsRun P.Pages pages.new now.height at run.now) }
     ensures works { OnOk result (WorksWhere P.Pages pages.old pages.new root (2 * root.height + 4) (λ lines. space_of run.now ≤ 4072)) }
     ensures kept { Continues P.Pages pages.old pages.new }
     ensures cause { StopsAtFault P.Pages (IsErrOf result PageErr.Failed) pages.old pages.new }
@@ -149,6 +152,7 @@ pub fn put_runs<P: Pages>(
     ensures put { IfOk result (λ now. TurnsTree P.Pages pages.old pages.new root now (λ lines. splice lines at 0 (all_lines runs.now))) }
     ensures lines { IfOk result (λ now. now.lines ≡ root.lines + length (all_lines runs.now)) }
     ensures higher { IfOk result (λ now. now.height ≤ root.height + 1) }
+    ensures cuts { IfOk result (SpreadsTree P.Pages pages.old pages.new root (at - 1) runs.now) }
     ensures filled { IfOk result (λ now. AllHaveLines runs.now → StaysFilled P.Pages pages.old pages.new root now) }
     ensures kept { Continues P.Pages pages.old pages.new }
     ensures cause { StopsAtFault P.Pages (IsErrOf result PageErr.Failed) pages.old pages.new }
@@ -178,6 +182,7 @@ pub fn put_lines<P: Pages>(
     ensures lines { IfOk result (λ now. now.lines ≡ root.lines + length new.now) }
     ensures higher { IfOk result (λ now. now.height ≤ root.height + length new.now) }
     ensures filled { IfOk result (λ now. StaysFilled P.Pages pages.old pages.new root now) }
+    ensures packed { IfOk result (λ now. PacksTree P.Pages pages.new now.height at (map stored_line new.now)) }
     ensures none { IfOk result (λ now. length new.now ≡ 0 → (now ≡ root) × IsUntouched P.Pages pages.old pages.new) }
     ensures works { OnOk result (WorksWhere P.Pages pages.old pages.new root (2 * root.height + 4) (λ lines. (length new.now ≤ 1) × All FitsPage new.now)) }
     ensures kept { Continues P.Pages pages.old pages.new }
@@ -224,6 +229,7 @@ pub fn take_lines<P: Pages>(
     ensures lines { IfOk result (λ taken. taken.root.lines + count ≡ root.lines) }
     ensures none { IfOk result (λ taken. count ≡ 0 → (taken.root ≡ root) × IsUntouched P.Pages pages.old pages.new) }
     ensures level { IfOk result (λ taken. taken.root.height ≡ root.height) }
+    ensures before { IfOk result (λ taken. KeepsBefore P.Pages pages.old pages.new root at taken.root) }
     ensures filled { IfOk result (λ taken. count ≡ 1 → 1 ≤ taken.root.lines → LosesEntry P.Pages pages.old pages.new root taken.root) }
     ensures thins { IfOk result (λ taken. count ≡ 1 →
         ThinsRoot P.Pages pages.old pages.new root.height root.lines at taken.root.height) }
@@ -267,6 +273,7 @@ fn replace_all<P: Pages>(
     ensures exchanged { IfOk result (λ taken. TurnsTree P.Pages pages.old pages.new root taken.root (λ lines. exchanged_lines lines 0 root.lines new.now)) }
     ensures bytes { IfOk result (λ taken. CountsRun P.Pages pages.old root (bytes_of new.now) 0 root.lines taken.bytes) }
     ensures filled { IfOk result (λ taken. root.lines ≡ 1 → FillsRoot P.Pages pages.old pages.new 32 root.height 32 taken.root.height) }
+    ensures packed { IfOk result (λ taken. PacksTree P.Pages pages.new taken.root.height 0 (map stored_line new.now)) }
     ensures works { OnOk result (WorksWhere P.Pages pages.old pages.new root (3 * root.height + 6) (λ lines. ExchangesLine lines 0 root.lines new.now)) }
     ensures kept { Continues P.Pages pages.old pages.new }
     ensures cause { StopsAtFault P.Pages (IsErrOf result PageErr.Failed) pages.old pages.new }
@@ -301,6 +308,7 @@ pub fn exchange_lines<P: Pages>(
     ensures exchanged { IfOk result (λ taken. TurnsTree P.Pages pages.old pages.new root taken.root (λ lines. exchanged_lines lines top old new.now)) }
     ensures bytes { IfOk result (λ taken. CountsRun P.Pages pages.old root (bytes_of new.now) top old taken.bytes) }
     ensures filled { IfOk result (λ taken. IsMild root.lines old → FillsRoot P.Pages pages.old pages.new 32 root.height 32 taken.root.height) }
+    ensures packed { IfOk result (λ taken. PacksTree P.Pages pages.new taken.root.height top (map stored_line new.now)) }
     ensures thins { IfOk result (λ taken. old ≡ 1 → length new.now ≡ 0 →
         ThinsRoot P.Pages pages.old pages.new root.height root.lines top taken.root.height) }
     ensures level { IfOk result (λ taken. length new.now ≡ 0 → taken.root.height ≡ root.height) }

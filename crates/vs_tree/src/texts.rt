@@ -1,13 +1,14 @@
 // The text of the tree, spliced.
-ghost use Rattle.std.specs.Prelude.{◌≡◌, ◌≤◌, ◌<◌, ◌+◌, ◌-◌, ◌*◌, ◌^◌, [], All, IsErrOf, IfOk, OnOk, IsTrue, length};
+ghost use Rattle.std.specs.Prelude.{◌≡◌, ◌≤◌, ◌<◌, ◌+◌, ◌-◌, ◌*◌, ◌^◌, [], All, IsErrOf, IfOk, OnOk, IsTrue, length, map};
 ghost use Rattle.vs_pages.specs.Calls.{Continues, StopsAtFault};
-ghost use Rattle.vs_text.specs.Text.{IsText, bytes_of};
+ghost use Rattle.vs_text.specs.Text.{IsText, bytes_of, stored_line};
 ghost use Rattle.vs_text.specs.Limits.{IsShort};
 ghost use Rattle.vs_text.specs.declared.TheConstants.{MAX_LINES, MAX_TEXT_BYTES};
 ghost use Rattle.vs_edit.specs.Splices.{splice};
 ghost use Rattle.vs_tree_blocks.specs.Edits.{FitsPage};
 ghost use Rattle.vs_tree.specs.Calls.{OfText, Splices, SplicesAtMost, SplicesBy, SplicesLittle, WorksLittle};
 ghost use Rattle.vs_tree.specs.Fills.{FillsRoot, IsMild, ThinsRoot};
+ghost use Rattle.vs_tree.specs.Packed.{PacksTree};
 ghost use Rattle.vs_tree.specs.Texts.{HasText, Fits};
 
 use crate::{Root, exchange_lines};
@@ -69,6 +70,7 @@ fn fill_text<P: Pages>(
     ensures text { IfOk result (λ extent. IsTrue P.tells → HasText (P.shows pages.new).present extent new.now) }
     ensures lines { IfOk result (λ extent. extent.lines ≡ length new.now) }
     ensures filled { IfOk result (λ extent. FillsRoot P.Pages pages.old pages.new 32 now.height 32 extent.height) }
+    ensures packed { IfOk result (λ extent. PacksTree P.Pages pages.new extent.height 0 (map stored_line new.now)) }
     ensures works { OnOk result (IsTrue P.tells → length new.now ≤ 1 → All FitsPage new.now → WorksLittle P.Pages pages.old pages.new now) }
     ensures kept { Continues P.Pages pages.old pages.new }
     ensures cause { StopsAtFault P.Pages (IsErrOf result PageErr.Failed) pages.old pages.new }
@@ -126,6 +128,7 @@ fn replace_lines<P: Pages>(
     ensures text { IfOk result (λ extent. Splices P.Pages pages.old pages.new now extent top old new.now) }
     ensures lines { IfOk result (λ extent. extent.lines + old ≡ now.lines + length new.now) }
     ensures filled { IfOk result (λ extent. IsMild now.lines old → FillsRoot P.Pages pages.old pages.new 32 now.height 32 extent.height) }
+    ensures packed { IfOk result (λ extent. PacksTree P.Pages pages.new extent.height top (map stored_line new.now)) }
     ensures thins { IfOk result (λ extent. old ≡ 1 → length new.now ≡ 0 →
         ThinsRoot P.Pages pages.old pages.new now.height now.lines top extent.height) }
     ensures level { IfOk result (λ extent. length new.now ≡ 0 → extent.height ≡ now.height) }
@@ -166,6 +169,7 @@ fn splice_text<P: Pages>(
     ensures text { IfOk result (λ extent. Splices P.Pages pages.old pages.new now extent top old new.now) }
     ensures lines { IfOk result (λ extent. extent.lines + old ≡ now.lines + length new.now) }
     ensures filled { IfOk result (λ extent. IsMild now.lines old → FillsRoot P.Pages pages.old pages.new 32 now.height 32 extent.height) }
+    ensures packed { IfOk result (λ extent. PacksTree P.Pages pages.new extent.height top (map stored_line new.now)) }
     ensures thins { IfOk result (λ extent. old ≡ 1 → length new.now ≡ 0 →
         ThinsRoot P.Pages pages.old pages.new now.height now.lines top extent.height) }
     ensures level { IfOk result (λ extent. old < now.lines → length new.now ≡ 0 → extent.height ≡ now.height) }
@@ -203,6 +207,7 @@ pub fn splice_within<P: Pages>(
     ensures lines { IfOk result (λ extent. extent.lines + old ≡ now.lines + length new.now) }
     ensures bytes { IfOk result (λ extent. extent.bytes ≤ MAX_TEXT_BYTES) }
     ensures filled { IfOk result (λ extent. IsMild now.lines old → FillsRoot P.Pages pages.old pages.new 32 now.height 32 extent.height) }
+    ensures packed { IfOk result (λ extent. PacksTree P.Pages pages.new extent.height top (map stored_line new.now)) }
     ensures thins { IfOk result (λ extent. old ≡ 1 → length new.now ≡ 0 →
         ThinsRoot P.Pages pages.old pages.new now.height now.lines top extent.height) }
     ensures level { IfOk result (λ extent. old < now.lines → length new.now ≡ 0 → extent.height ≡ now.height) }

@@ -1,9 +1,9 @@
 // The tree of a text, and the store that it makes with pages.
-ghost use Rattle.std.specs.Prelude.{◌≡◌, ◌≤◌, ◌<◌, ◌+◌, ◌*◌, ◌++◌, [], All, IsErrOf, IfOk, OnErr, OnOk, IsTrue, get_or, length, refl};
+ghost use Rattle.std.specs.Prelude.{◌≡◌, ◌≤◌, ◌<◌, ◌+◌, ◌*◌, ◌++◌, [], All, IsErrOf, IfOk, OnErr, OnOk, IsTrue, get_or, length, map, refl};
 ghost use Rattle.std.proofs.Common.{◌∙◌};
 ghost use Rattle.vs_pages.specs.Calls.{Continues, OnlyReads, StopsAtFault};
 ghost use Rattle.vs_pages.specs.State.{history_of};
-ghost use Rattle.vs_text.specs.Text.{IsLine, bytes_of, file_of};
+ghost use Rattle.vs_text.specs.Text.{IsLine, bytes_of, file_of, stored_line};
 ghost use Rattle.vs_text.specs.Limits.{IsShort};
 ghost use Rattle.vs_text.specs.declared.TheConstants.{MAX_LINES, MAX_TEXT_BYTES};
 ghost use Rattle.vs_edit.specs.Splices.{cut_out, splice};
@@ -32,6 +32,7 @@ pub struct LineTree {
 impl LineTree {
     ghost use Rattle.vs_tree.specs.Calls.{OfText, Splices, SplicesAtMost, SplicesLittle};
     ghost use Rattle.vs_tree.specs.Fills.{FillsText, IsMild, ThinsText};
+    ghost use Rattle.vs_tree.specs.Packed.{PacksTree};
     ghost use Rattle.vs_tree.specs.Texts.{HasText, Fits};
 
     /// Writes the tree of the text without lines into the pages 1 and 2, and commits the pages.
@@ -147,6 +148,7 @@ impl LineTree {
         ensures fits { Fits P.tells (P.shows pages.new).present self.new.present }
         ensures lines { OnOk result (self.new.present.lines + old ≡ self.old.present.lines + length new.now) }
         ensures filled { OnOk result (IsMild self.old.present.lines old → FillsText P.Pages pages.old pages.new self.old.present self.new.present) }
+        ensures packed { OnOk result (PacksTree P.Pages pages.new self.new.present.height top (map stored_line new.now)) }
         ensures thins { OnOk result (old ≡ 1 → length new.now ≡ 0 →
             ThinsText P.Pages pages.old pages.new self.old.present top self.new.present) }
         ensures level { OnOk result (old < self.old.present.lines → length new.now ≡ 0 → self.new.present.height ≡ self.old.present.height) }

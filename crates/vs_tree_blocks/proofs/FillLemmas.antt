@@ -25,7 +25,7 @@ use Rattle.vs_tree_blocks.proofs.PointersLemmas.{pointer_one}
 
 -- data blocks
 
-either : {X : Type 0} (P : X → Type 0) (b : Bool) (x y : X) → P x → P y → P (if b then x else y)
+pub either : {X : Type 0} (P : X → Type 0) (b : Bool) (x y : X) → P x → P y → P (if b then x else y)
 either P true x y a b = a
 either P false x y a b = b
 
@@ -95,7 +95,7 @@ leads_filled n least d (e ∷ above) (b ∷ blocks) lead all =
     let tail : LeadTo n above blocks = cc in
     ((b, head, all.0.0, all.0.1), leads_filled n least d above blocks tail all.1)
 
-pointer_two : (es : List Entry) → 127 < length es → halves_of es ≡ pointer_blocks es
+pub pointer_two : (es : List Entry) → 127 < length es → halves_of es ≡ pointer_blocks es
 pointer_two [] many = absurd (omega arith)
 pointer_two (e ∷ es) many = grind (arith, nat_tests)
 

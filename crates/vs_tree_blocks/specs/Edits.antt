@@ -5,9 +5,10 @@ use Rattle.vs_pages.specs.Maps.{Map, pages_at, span}
 use Rattle.vs_pages.specs.declared.pages.Pages.{Ghosts}
 use Rattle.vs_tree_shape.specs.declared.entries.Entry.{Entry}
 use Rattle.vs_tree_shape.specs.Trees.{lines_of}
+use Rattle.vs_tree_shape.specs.DataBlocks.{Cuts, blocks_below, read_blocks}
 use Rattle.vs_tree_shape.specs.Changes.{Change, ChangesBelow, HasLineBelow, Takes, edited, splice}
 use Rattle.vs_tree_shape.specs.Works.{Works, WorksBesideZero}
-use Rattle.vs_tree_blocks.specs.Blocks.{tree_format}
+use Rattle.vs_tree_blocks.specs.Blocks.{data_lines, tree_format}
 use Rattle.vs_tree_blocks.specs.Cuts.{all_lines, blocks_with, part, parted, room_in, spread}
 use Rattle.vs_tree_blocks.specs.Runs.{lines_within}
 use Rattle.vs_tree_blocks.specs.Writes.{HasBlocks, Leaves, OfLines, WorksBy}
@@ -124,6 +125,16 @@ CutsBlock g old new entry at edit after =
     IsTrue g.tells → (bytes : List ℕ) → pages_at (g.shows old).present entry.block entry.pages ≡ Some bytes
     → HasBlocks (g.shows old).present (g.shows new).present (λ k. span entry.block entry.pages k)
     (blocks_after entry.pages bytes at edit after.removed.lines) after.entries.items
+
+-- A data block with these lines was edited at one of them, and such blocks stand in its place, as the rules of splitting say.
+abbrev pub IsEditedInto : Edit → ℕ → List (List ℕ) → ℕ → List (List (List ℕ)) → Type 0
+IsEditedInto edit gone lines at parts = (pages : ℕ) × (bytes : List ℕ) × (data_lines pages bytes ≡ Some lines) × (parts ≡ blocks_after pages bytes at edit gone)
+
+-- Of the data blocks below the entry the one with the line was edited so, and the others stay.
+abbrev pub CutsBelow : {P : Type 0} → Ghosts P → P → P → Entry → ℕ → ℕ → Edit → Edited → Type 0
+CutsBelow g old new top depth at edit after =
+    IsTrue g.tells → Cuts (read_blocks tree_format depth (g.shows old).present top.block top.pages) at (IsEditedInto edit after.removed.lines)
+    (blocks_below tree_format depth (g.shows new).present after.entries.items)
 
 -- a line that may stand in a data block: it has no zero byte, and is not too long
 pub record IsStored (line : List ℕ) : Type 0 where

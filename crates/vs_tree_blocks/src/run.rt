@@ -91,7 +91,8 @@ impl Run {
     /// The run of the first of some stored lines, from their bytes, each followed by a zero byte: as many as a page has room for. It has
     /// no line where none ends in the bytes, or the first is too long for a page.
     pub fn of_first(alloc: Global, lines: &[u8]) -> Result<FirstRun, AllocError>
-        ensures { IfOk result (λ first. IsFirstRun lines.now first.run first.taken) }
+        ensures first { IfOk result (λ first. IsFirstRun lines.now first.run first.taken) }
+        ensures page { IfOk result (λ first. space_of first.run ≤ 4072) }
     {
         let mut bytes = page_beginning(alloc, lines)?;
         let (view, taken) = fill_page(&mut bytes, lines);

@@ -1,3 +1,4 @@
+pub mod Blocks
 pub mod Downs
 pub mod Fills
 pub mod Joins

@@ -27,7 +27,7 @@ entries_cut f before mid after es i is index =
       ap (λ xs. drop (i + 1) xs) cut ∙ drop_past (map f before) (f mid ∷ map f after) (i + 1) 1 (omega arith),
     )
 
-entry_is : (d : ℕ) (kids : List (Tree d)) (at : ℕ) (place : Place) (child : Child d kids at place) → entry_of d child.child ≡ place.entry
+pub entry_is : (d : ℕ) (kids : List (Tree d)) (at : ℕ) (place : Place) (child : Child d kids at place) → entry_of d child.child ≡ place.entry
 entry_is d kids at place child =
     let blocks : ℕ → Entry = λ b. record { block = b; pages = width_of d child.child; lines = length (lines_of d child.child) } in
     let widths : ℕ → Entry = λ p. record { block = place.entry.block; pages = p; lines = length (lines_of d child.child) } in

@@ -1,4 +1,5 @@
 pub mod Changes
+pub mod DataBlocks
 pub mod Depths
 pub mod Filled
 pub mod Keeps

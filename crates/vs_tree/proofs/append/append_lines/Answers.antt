@@ -1,13 +1,16 @@
 -- The first run comes after the last line, and then all lines of the rest.
-use Rattle.std.proofs.Common.{◌≡◌, List, ℕ, ◌++◌, length, map, sym, ap, subst, ◌∙◌, arith, append-nil, length-append}
-use Rattle.std.proofs.lemmas.List.{length-map}
+use Rattle.std.proofs.Common.{◌≡◌, ◌≤◌, List, ℕ, ◌++◌, length, map, sym, ap, subst, ◌∙◌, arith, append-nil, length-append}
+use Rattle.std.proofs.lemmas.List.{length-map, map-append}
 use Rattle.vs_text.specs.Text.{lines_of, stored_line}
 use Rattle.vs_tree_shape.specs.Changes.{splice}
+use Rattle.vs_tree_blocks.specs.Blocks.{data_blocks}
+use Rattle.vs_tree.specs.Packed.{stored_lines}
 use Rattle.vs_tree.specs.Runs.{HasTree}
 use Rattle.vs_tree.specs.declared.walk.Root.{Root}
 use Rattle.std.proofs.lemmas.Result.{IfOk-weaker}
 use Rattle.vs_pages.proofs.Steps.{Continues-trans}
 use Rattle.vs_tree.proofs.AppendLemmas.{first_then_rest, lines_none, short_after}
+use Rattle.vs_tree.proofs.OwnBlocks.{put_both}
 use Rattle.vs_tree.proofs.append.append_lines.Goals as goal
 
 pub returns-then-is_empty-clause-put : goal.returns-then-is_empty-clause-put
@@ -68,3 +71,21 @@ returns-clause-filled g c = IfOk-weaker c.append_runs.result _ _
     let filled = c.in-Ok.ensures.filled in
     stays least one half told (c.in_ok-now.ensures.filled (omega (arith, filled.some, ap length filled.stored, length-map filled.put stored_line)) least one half told f))
     c.append_runs.ensures.filled
+
+pub returns-then-is_empty-clause-packed : goal.returns-then-is_empty-clause-packed
+returns-then-is_empty-clause-packed g c =
+    let none : length c.args.bytes.now ≡ 0 = grind arith in
+    λ whole told some. absurd (omega (arith, some, ap length (ap (λ ls. map stored_line ls) (lines_none c.args.bytes.now none))))
+
+pub returns-clause-packed : goal.returns-clause-packed
+returns-clause-packed g c = IfOk-weaker c.append_runs.result _ _
+    (λ (now : Root) behind whole told some.
+    let filled = c.in-Ok.ensures.filled in
+    let run : List (List ℕ) = c.in-Ok.filled.run in
+    let rest : List (List ℕ) = stored_lines c.in-Ok.filled.rest.now in
+    let there : 1 ≤ length run = omega (arith, filled.some, ap length filled.stored, length-map filled.put stored_line) in
+    put_both (data_blocks (g.P.Pages.shows c.append_runs.new.pages).present now.height) c.args.root.lines run rest _
+    (ap (λ ls. map stored_line ls) filled.lines ∙ map-append stored_line filled.put (lines_of c.in-Ok.filled.rest.now) ∙ ap (λ ls. ls ++ rest) (sym filled.stored))
+    there c.in-Ok.ensures.page (c.in-Ok.ensures.full whole)
+    (behind (filled.whole whole) told c.args.root.lines run c.in_ok-now.ensures.lines there (c.in_ok-now.ensures.holds there told)))
+    c.append_runs.ensures.packed

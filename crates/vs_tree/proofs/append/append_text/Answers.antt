@@ -1,8 +1,9 @@
-use Rattle.std.proofs.Common.{◌≡◌, ℕ, ◌<◌, List, length, sym, ap, subst, ◌∙◌, arith, length-append}
+use Rattle.std.proofs.Common.{◌≡◌, ℕ, ◌<◌, List, [], length, sym, ap, subst, ◌∙◌, arith, length-append}
 use Rattle.vs_text.specs.Text.{lines_of, stored}
 use Rattle.vs_tree_shape.specs.Filled.{HasFilledRoot}
 use Rattle.vs_tree_shape.specs.Trees.{HasLines}
-use Rattle.vs_tree_blocks.specs.Blocks.{tree_format}
+use Rattle.vs_tree_blocks.specs.Blocks.{data_blocks, tree_format}
+use Rattle.vs_tree.specs.Packed.{ArePut, stored_lines}
 use Rattle.vs_tree.specs.declared.walk.Root.{Root}
 use Rattle.vs_tree.proofs.AppendLemmas.{is_text_more, stored_more, tree_lines_some, within_more}
 use Rattle.vs_tree.proofs.Rounds.{bytes_of-append}
@@ -46,3 +47,8 @@ pub returns-clause-filled : goal.returns-clause-filled
 returns-clause-filled g c = λ told f.
     let height : c.root.result.height ≡ c.args.now.height = ap (λ (r : Root). r.height) c.root.ensures in
     c.in_ok-tree.ensures.filled 32 (omega arith) (omega arith) told (subst (λ (h : ℕ). HasFilledRoot tree_format (g.P.Pages.shows c.args.pages.now).present 32 h) (sym height) f)
+
+pub returns-clause-packed : goal.returns-clause-packed
+returns-clause-packed g c = λ whole told some.
+    let root : c.root.result.lines ≡ c.args.now.lines = ap (λ (r : Root). r.lines) c.root.ensures ∙ tree_lines_some c.args.now.lines c.requires.full in
+    subst (λ (at : ℕ). ArePut (data_blocks (g.P.Pages.shows c.append_lines.new.pages).present c.in_ok-tree.tree.height) at (stored_lines c.args.bytes.now) []) root (c.in_ok-tree.ensures.packed whole told some)

@@ -1,6 +1,9 @@
-use Rattle.std.proofs.Common.{◌≡◌, ℕ, List, [], ◌++◌, All, length, sym, ap, subst, ◌∙◌, arith, append-nil}
+use Rattle.std.proofs.Common.{◌≡◌, ◌≤◌, ℕ, List, [], ◌++◌, All, length, map, sym, ap, subst, ◌∙◌, arith, append-nil}
 use Rattle.std.proofs.lemmas.Result.{IfOk-weaker}
-use Rattle.vs_text.specs.Text.{bytes_of}
+use Rattle.vs_text.specs.Text.{bytes_of, file_of, lines_of, stored_line}
+use Rattle.vs_tree_blocks.specs.Blocks.{data_blocks}
+use Rattle.vs_tree.specs.Packed.{ArePut, IsWhole, PacksText}
+use Rattle.vs_tree.proofs.OwnBlocks.{put_behind}
 use Rattle.vs_text.specs.Limits.{IsShort}
 use Rattle.vs_tree.specs.declared.texts.Extent.{Extent}
 use Rattle.vs_tree.specs.Texts.{HasText}
@@ -71,3 +74,28 @@ returns-clause-few g c = IfOk-weaker c.append_text.result _ _
 
 pub returns-then-is_empty-clause-filled : goal.returns-then-is_empty-clause-filled
 returns-then-is_empty-clause-filled g c = λ told f. f
+
+-- bytes that are the file form of lines are whole
+whole_bytes : (bytes : List ℕ) (lines : List (List ℕ)) → bytes ≡ file_of lines → lines_of bytes ≡ lines → IsWhole bytes
+whole_bytes bytes lines is of = ap file_of of ∙ sym is
+
+pub returns-then-is_empty-clause-packed : goal.returns-then-is_empty-clause-packed
+returns-then-is_empty-clause-packed g c =
+    let none : length c.bytes-bytes.result.now ≡ 0 = grind arith in
+    let no_lines : c.args.lines.now ≡ [] = sym c.bytes-bytes.ensures.lines ∙ lines_none c.bytes-bytes.result.now none in
+    λ told. put_behind _ _ c.args.now.lines _ (λ some. absurd (omega (arith, some, ap length (ap (λ (ls : List (List ℕ)). map stored_line ls) no_lines))))
+
+pub returns-then-now-eq0-clause-packed : goal.returns-then-now-eq0-clause-packed
+returns-then-now-eq0-clause-packed g c = IfOk-weaker c.begin_text.result _ _
+    (λ (extent : Extent) packed.
+    subst (λ (ls : List (List ℕ)). PacksText g.P.Pages c.begin_text.new.pages c.args.now extent ls) c.bytes-bytes.ensures.lines
+    (packed (whole_bytes c.bytes-bytes.result.now c.args.lines.now c.bytes-bytes.ensures.bytes c.bytes-bytes.ensures.lines)))
+    c.begin_text.ensures.packed
+
+pub returns-clause-packed : goal.returns-clause-packed
+returns-clause-packed g c = IfOk-weaker c.append_text.result _ _
+    (λ (extent : Extent) packed told.
+    put_behind _ _ c.args.now.lines _
+    (subst (λ (ls : List (List ℕ)). 1 ≤ length (map stored_line ls) → ArePut (data_blocks (g.P.Pages.shows c.append_text.new.pages).present extent.height) c.args.now.lines (map stored_line ls) []) c.bytes-bytes.ensures.lines
+    (packed (whole_bytes c.bytes-bytes.result.now c.args.lines.now c.bytes-bytes.ensures.bytes c.bytes-bytes.ensures.lines) told)))
+    c.append_text.ensures.packed

@@ -1,11 +1,13 @@
 -- The first line comes in place of the empty one, and the others come after it.
-use Rattle.std.proofs.Common.{ℕ, inr, List, [], ◌∷◌, length, ap, subst, arith}
+use Rattle.std.proofs.Common.{ℕ, inr, List, [], ◌∷◌, length, map, ap, subst, arith}
 use Rattle.std.proofs.lemmas.Result.{IfOk-weaker}
-use Rattle.vs_text.specs.Text.{bytes_of}
+use Rattle.vs_text.specs.Text.{bytes_of, stored_line}
+use Rattle.vs_tree_blocks.specs.Blocks.{data_blocks}
+use Rattle.vs_tree.specs.Packed.{ArePut, stored_lines}
 use Rattle.vs_pages.proofs.Steps.{Continues-trans}
 use Rattle.vs_tree.specs.declared.texts.Extent.{Extent}
 use Rattle.vs_tree.specs.Texts.{HasText}
-use Rattle.vs_tree.proofs.AppendLemmas.{begun, begun_bytes, first_then, one_short}
+use Rattle.vs_tree.proofs.AppendLemmas.{begun, begun_bytes, first_then, lead_few, one_short}
 use Rattle.vs_tree.proofs.append.begin_text.Goals as goal
 
 pub splice_within-requires-clause-short_lines : goal.splice_within-requires-clause-short_lines
@@ -56,3 +58,18 @@ returns-clause-kept g c = Continues-trans g.met.P.Pages.stays_on c.splice_within
 pub returns-clause-filled : goal.returns-clause-filled
 returns-clause-filled g c = IfOk-weaker c.append_text.result _ _
     (λ (extent : Extent) fills told f. fills told (c.in_ok-put.ensures.filled (inr (omega (arith, c.requires.empty))) told f)) c.append_text.ensures.filled
+
+pub returns-clause-packed : goal.returns-clause-packed
+returns-clause-packed g c = IfOk-weaker c.append_text.result _ _
+    (λ (extent : Extent) packed whole told.
+    let line : List ℕ = stored_line c.first_line.result.0.now in
+    let rest : List (List ℕ) = stored_lines c.first_line.result.1.now in
+    let blocks = data_blocks (g.P.Pages.shows c.append_text.new.pages).present extent.height in
+    record {
+      lead = line ∷ [];
+      others = rest;
+      lines_are = ap (λ ls. map stored_line ls) c.first_line.ensures.lines;
+      few = lead_few c.args.now.lines c.requires.empty;
+      put = λ some. subst (λ (at : ℕ). ArePut blocks at rest []) (omega (arith, c.in_ok-put.ensures.lines, c.requires.empty)) (packed (c.first_line.ensures.whole whole) told some);
+    })
+    c.append_text.ensures.packed

@@ -14,7 +14,10 @@ use Rattle.vs_tree_blocks.specs.Pointers.{LeadTo, pointer_blocks}
 use Rattle.vs_tree.proofs.EditFills.{some_entries}
 use Rattle.vs_tree_shape.proofs.Steps.{above_down, above_entries, edited_pointers, filled_inside, pointers_there}
 use Rattle.vs_tree_blocks.specs.Blocks.{tree_format}
-use Rattle.vs_tree_blocks.specs.Edits.{change_of, WorksBelow, most_entries, most_worked}
+use Rattle.vs_tree_shape.specs.DataBlocks.{Cuts, blocks_below, read_blocks}
+use Rattle.vs_tree_shape.proofs.Blocks.{cuts_inside}
+use Rattle.vs_tree_blocks.proofs.BlocksLemmas.{edited_block, pointers_blocks}
+use Rattle.vs_tree_blocks.specs.Edits.{IsEditedInto, change_of, WorksBelow, most_entries, most_worked}
 use Rattle.vs_tree_blocks.specs.declared.edit.Edit.{Edit}
 use Rattle.vs_tree_blocks.specs.declared.edit.Edit.TheVariants.{Before, After, Behind, Remove}
 use Rattle.vs_tree_blocks.specs.declared.edit.Edited.{Edited}
@@ -238,3 +241,42 @@ returns-clause-only g t c = λ told out.
     let of = c.in_ok-place.ensures.place told in
     go_below _ _ _ _ _ _ c.args.top _ c.args.depth c.args.at c.args.edit of.entries c.in_ok-place.place c.if-depth-eq0.false of.reads of.is (c.find_below.ensures.kept.present told) (c.find_below.ensures.kept.still.worked told) refl
     (c.in_ok-below.ensures.only told out) (c.in_ok-above.ensures.one (omega (arith, ap length c.deref.ensures.value, c.in_ok-below.ensures.single, out)) told)
+
+pub returns-then-depth-eq0-clause-cuts : goal.returns-then-depth-eq0-clause-cuts
+returns-then-depth-eq0-clause-cuts g t c = IfOk-weaker c.edit_data.result _ _
+    (λ (after : Edited) cuts told.
+    let none : c.args.depth ≡ 0 = c.if-depth-eq0.true in
+    let m : Map = (g.P.Pages.shows c.args.pages.now).present in
+    let n : Map = (g.P.Pages.shows c.edit_data.new.pages).present in
+    let top : Entry = c.args.top in
+    let there = above_there _ _ top c.args.depth c.args.at (c.requires.there told) in
+    let P : ℕ → Type 0 = λ d. Cuts (read_blocks tree_format d m top.block top.pages) c.args.at (IsEditedInto c.args.edit after.removed.lines) (blocks_below tree_format d n after.entries.items) in
+    subst P (sym none) (edited_block m n _ top c.args.at after.removed.lines c.args.edit there.0 after.entries.items there.1
+    (subst (λ (d : ℕ). HasLineBelow tree_format m top d c.args.at) none (c.requires.there told)) (cuts told there.0 there.1)))
+    c.edit_data.ensures.blocks
+
+pub returns-clause-cuts : goal.returns-clause-cuts
+returns-clause-cuts g t c = λ told.
+    let m : Map = (g.P.Pages.shows c.args.pages.now).present in
+    let n1 : Map = (g.P.Pages.shows c.edit_below.new.pages).present in
+    let n : Map = (g.P.Pages.shows c.exchange_entry.new.pages).present in
+    let depth : ℕ = c.args.depth in
+    let top : Entry = c.args.top in
+    let of = c.in_ok-place.ensures.place told in
+    let place = c.in_ok-place.place in
+    let new : List Entry = c.in_ok-below.below.entries.items in
+    let above : List Entry = c.in_ok-above.above.items in
+    let all : List Entry = replaced of.entries place.index c.deref.result.now in
+    let mid = ap (λ by. replaced of.entries place.index by) c.deref.ensures.value in
+    let gone : ℕ = c.in_ok-below.below.removed.lines in
+    let change = change_of c.args.edit gone in
+    let promise = promised _ _ _ _ _ _ _ _ _ _ (c.find_below.ensures.kept.present told) refl (c.in_ok-below.ensures.wrote told) in
+    let same = pointers_there _ _ n1 top depth _ c.in_ok-below.below.removed.bytes change of.entries new all place c.if-depth-eq0.false of.reads of.is mid promise (c.requires.there told) in
+    let now = entries_kept m n1 top.block of.entries same of.reads in
+    let Q : Map → Type 0 = λ f. Cuts (read_blocks tree_format (depth - 1) f place.entry.block place.entry.pages) place.rest (IsEditedInto c.args.edit gone) (blocks_below tree_format (depth - 1) n1 new) in
+    let inside = cuts_inside tree_format m n1 n top depth c.args.at c.in_ok-below.below.removed.bytes change of.entries new all place (IsEditedInto c.args.edit gone) c.if-depth-eq0.false of.reads of.is mid promise (c.requires.there told)
+    (c.in_ok-above.ensures.others told) (subst Q (c.find_below.ensures.kept.present told) (c.in_ok-below.ensures.cuts told)) in
+    let deep : suc (depth - 1) ≡ depth = omega (arith, c.if-depth-eq0.false) in
+    let up : blocks_below tree_format (depth - 1) n all ≡ blocks_below tree_format depth n above =
+    sym (pointers_blocks n (depth - 1) above all (c.in_ok-above.ensures.blocks told of.entries now told)) ∙ ap (λ (d : ℕ). blocks_below tree_format d n above) deep in
+    subst (λ (bs : List (List (List ℕ))). Cuts (read_blocks tree_format depth m top.block top.pages) c.args.at (IsEditedInto c.args.edit gone) bs) up inside

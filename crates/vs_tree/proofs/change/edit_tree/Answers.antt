@@ -17,8 +17,11 @@ use Rattle.vs_tree_blocks.specs.Fills.{KeepsFilled, IsThinned}
 use Rattle.vs_tree_blocks.specs.Pointers.{HasRoot}
 use Rattle.vs_tree.proofs.ThinEdits.{IsThinAbove, lost_added, lost_full, lost_single, thin_step}
 use Rattle.vs_tree.proofs.EditFills.{root_enough}
-use Rattle.vs_tree_blocks.specs.Blocks.{tree_format, entries_at, LeadsToPointers}
-use Rattle.vs_tree_blocks.specs.Edits.{change_of, most_in_tree}
+use Rattle.vs_tree_shape.specs.DataBlocks.{Cuts, blocks_below, read_blocks}
+use Rattle.vs_tree_shape.proofs.Blocks.{cuts_inside}
+use Rattle.vs_tree_blocks.proofs.BlocksLemmas.{root_blocks}
+use Rattle.vs_tree_blocks.specs.Blocks.{data_blocks, tree_format, entries_at, LeadsToPointers}
+use Rattle.vs_tree_blocks.specs.Edits.{IsEditedInto, change_of, most_in_tree}
 use Rattle.vs_tree_blocks.specs.Pointers.{HasEntry}
 use Rattle.vs_tree.proofs.Bounds.{few_below, few_lines, go_below, go_lines, root_work}
 use Rattle.vs_tree.proofs.ChangeLemmas.{entries_kept, has_entry, place_got, promised, few_added}
@@ -207,3 +210,32 @@ returns-clause-only g c = λ out told lines has slight.
     go_lines _ _ _ c.args.root c.args.at c.args.edit lines has c.requires.within c.requires.small slight
     (go_below _ _ _ _ _ _ (pointer_entry 1 c.args.root.lines) _ c.args.root.height c.args.at c.args.edit of.entries c.in_ok-place.place (not_flat _ _ _ _ has.lines_are) reads of.is (c.find_below.ensures.kept.present told) (c.find_below.ensures.kept.still.worked told)
     c.saturating_sub.ensures (c.in_ok-below.ensures.only told out) (c.in_ok-more.ensures.one (omega (arith, ap length c.deref.ensures.value, c.in_ok-below.ensures.single, out)) told))
+
+pub returns-clause-cuts : goal.returns-clause-cuts
+returns-clause-cuts g c = λ told.
+    let r = c.requires.there told in
+    let has = r.1 in
+    let m : Map = (g.P.Pages.shows c.args.pages.now).present in
+    let n1 : Map = (g.P.Pages.shows c.edit_below.new.pages).present in
+    let n : Map = (g.P.Pages.shows c.exchange_in_root.new.pages).present in
+    let height : ℕ = c.args.root.height in
+    let of = c.in_ok-place.ensures.place told in
+    let place = c.in_ok-place.place in
+    let top : Entry = pointer_entry 1 c.args.root.lines in
+    let new : List Entry = c.in_ok-below.below.entries.items in
+    let all : List Entry = replaced of.entries place.index c.deref.result.now in
+    let mid = ap (λ by. replaced of.entries place.index by) c.deref.ensures.value in
+    let gone : ℕ = c.in_ok-below.below.removed.lines in
+    let change = change_of c.args.edit gone in
+    let reads = sym (ap (λ (e : Entry). entries_at m e.block) c.entry-top.ensures) ∙ of.reads in
+    let promise = promised _ _ _ _ _ _ _ _ _ _ (c.find_below.ensures.kept.present told) c.saturating_sub.ensures (c.in_ok-below.ensures.wrote told) in
+    let flat = not_flat _ _ _ _ has.lines_are in
+    let above = first_above _ _ _ c.args.at _ _ has.lines_are has.count c.requires.within c.requires.small in
+    let same = pointers_there _ _ n1 top height _ c.in_ok-below.below.removed.bytes change of.entries new all place flat reads of.is mid promise above in
+    let now = entries_kept m n1 1 of.entries same reads in
+    let Into = IsEditedInto c.args.edit gone in
+    let Q : ℕ → Map → Type 0 = λ d f. Cuts (read_blocks tree_format d f place.entry.block place.entry.pages) place.rest Into (blocks_below tree_format d n1 new) in
+    let inside = cuts_inside tree_format m n1 n top height c.args.at c.in_ok-below.below.removed.bytes change of.entries new all place Into flat reads of.is mid promise above (c.in_ok-more.ensures.others told)
+    (subst (λ (d : ℕ). Q d m) c.saturating_sub.ensures (subst (λ (f : Map). Q c.saturating_sub.result f) (c.find_below.ensures.kept.present told) (c.in_ok-below.ensures.cuts told))) in
+    let up = root_blocks n height c.in_ok-more.more all (omega (arith, has.lines_are.deep)) c.in_ok-more.ensures.more (c.in_ok-more.ensures.blocks told of.entries now) in
+    subst (λ (bs : List (List (List ℕ))). Cuts (data_blocks m height) c.args.at Into bs) (sym up) inside

@@ -10,6 +10,7 @@ use Rattle.vs_tree_shape.proofs.Working.{works_beside, works_from, works_then}
 use Rattle.vs_tree_blocks.specs.Blocks.{tree_format}
 use Rattle.std.proofs.lemmas.Bool.{cases_eq}
 use Rattle.vs_tree.specs.declared.runs.Taken.{Taken}
+use Rattle.vs_tree.specs.Packed.{PacksTree}
 use Rattle.vs_tree.specs.Runs.{ExchangesLine, HasTree, without_lines, run_of}
 use Rattle.vs_tree.proofs.Rounds.{out_then_in}
 use Rattle.vs_pages.proofs.Steps.{Continues-trans}
@@ -124,3 +125,10 @@ pub returns-clause-come : goal.returns-clause-come
 returns-clause-come g c = λ none told lines has small.
     works_from _ (g.P.Pages.shows c.take_lines.new.pages).worked _ (2 * c.in_ok-taken.taken.root.height + 4) (2 * c.args.root.height + 4) (omega (arith, c.in_ok-taken.ensures.level)) ((c.in_ok-taken.ensures.none none).1 told).1
     (c.in_ok-now.ensures.works told (without_lines lines c.args.top c.args.old) (c.in_ok-taken.ensures.taken told lines has) (small.few_in, small.brief_in))
+
+pub returns-then-all_go-clause-packed : goal.returns-then-all_go-clause-packed
+returns-then-all_go-clause-packed g c = IfOk-weaker c.replace_all.result _ _
+    (λ (after : Taken) packed.
+    let top : 0 ≡ c.args.top = omega (arith, c.requires.within, c.all_go.ensures.0 c.if-all_go.true) in
+    subst (λ (k : ℕ). PacksTree g.P.Pages c.replace_all.new.pages after.root.height k (map stored_line c.args.new.now)) top packed)
+    c.replace_all.ensures.packed

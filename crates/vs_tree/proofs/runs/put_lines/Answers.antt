@@ -1,17 +1,23 @@
 -- The first run is put by the edit of a line, and the others go behind it, so a line alone is put by the first.
-use Rattle.std.proofs.Common.{◌≡◌, ◌==◌, ℕ, Bool, true, ◌+◌, ◌-◌, ◌≤◌, List, [], length, take, drop, map, refl, sym, ap, subst, ◌∙◌, arith, length-take}
+use Rattle.std.proofs.Common.{◌≡◌, ◌==◌, ℕ, Bool, true, ◌+◌, ◌-◌, ◌≤◌, ◌++◌, List, [], length, take, drop, map, refl, sym, ap, subst, ◌∙◌, arith, length-take}
 use Rattle.std.proofs.lemmas.Bool.Decides.{nat_tests}
 use Rattle.std.proofs.lemmas.Grind.{common_steps}
-use Rattle.std.proofs.lemmas.List.{length-map}
+use Rattle.std.proofs.lemmas.List.{drop_all, length-map}
 use Rattle.vs_text.specs.Text.{stored_line}
 use Rattle.vs_pages.proofs.Steps.{Continues-trans}
 use Rattle.vs_tree_shape.proofs.Working.{works_none}
 use Rattle.vs_tree_shape.specs.Changes.{splice}
+use Rattle.vs_tree_shape.specs.DataBlocks.{Cuts}
+use Rattle.vs_tree_blocks.specs.Blocks.{data_blocks}
 use Rattle.vs_tree_blocks.specs.Cuts.{all_lines}
 use Rattle.vs_tree_blocks.specs.Fills.{AllHaveLines}
 use Rattle.vs_tree.specs.Runs.{HasTree, with_lines}
-use Rattle.vs_tree.proofs.Rounds.{put_next, rest_of, with_none}
+use Rattle.vs_tree.proofs.Rounds.{put_next, rest_of, run_next, with_none}
 use Rattle.vs_tree_blocks.proofs.EntriesLemmas.{take_all}
+use Rattle.vs_tree_blocks.proofs.RemovedLemmas.{drop_both}
+use Rattle.vs_tree.specs.Packed.{ArePacked, ArePut, IsFullBefore}
+use Rattle.vs_tree.proofs.OwnBlocks.{Spreads, put_first, put_more}
+use Rattle.vs_tree.proofs.Packing.{lines_next}
 use Rattle.vs_tree.proofs.Bounds.{slight_run}
 use Rattle.vs_tree.proofs.runs.put_lines.Goals as goal
 
@@ -46,6 +52,9 @@ runs-init g c =
       higher = omega (arith, c.in_ok-first.ensures.higher, c.in_ok-run.ensures.some, size);
       more = omega (arith, c.in_ok-run.ensures.some, c.in_ok-run.ensures.within);
       filled = c.in_ok-first.ensures.filled (omega (arith, c.in_ok-run.ensures.some));
+      packed = λ told. subst (λ ls. ArePut (data_blocks (g.P.Pages.shows c.put_run.new.pages).present c.in_ok-first.first.height) c.args.at ls (map stored_line (drop c.len-put.result new))) run_is
+          (put_first _ c.args.at run _ c.in_ok-run.ensures.some c.in_ok-run.ensures.page (subst (λ k. IsFullBefore run (map stored_line (drop k new))) size c.in_ok-run.ensures.full)
+          (c.in_ok-first.ensures.holds c.in_ok-run.ensures.some told));
       works = λ told lines has small. c.in_ok-first.ensures.works told lines has (slight_run new run c.len-put.result 0 (run_is ∙ ap (λ xs. map stored_line (take c.len-put.result xs)) (from_first new)) refl small.0 small.1);
       kept = c.put_run.ensures.kept;
       faults = c.in_ok-first.ensures.cause.none (λ failed. absurd (cc));
@@ -87,6 +96,20 @@ runs-preserved g c =
       higher = omega (arith, inv.higher, c.in_ok-now.ensures.higher, c.in_ok-filled.ensures.some);
       more = inv.more;
       filled = λ least one half told f. c.in_ok-now.ensures.filled (subst (λ (bs : List (List (List ℕ))). AllHaveLines bs) (sym c.deref.ensures.value) c.in_ok-filled.ensures.each) least one half told (inv.filled least one half told f);
+      packed = λ told.
+          let more : List (List (List ℕ)) = c.deref.result.now in
+          let now_put : map stored_line (take i new) ++ all_lines more ≡ map stored_line (take (i + n) new) = run_next new (map stored_line (take i new)) run i n inv.within refl run_is in
+          let before : List (List ℕ) = map stored_line (take i new) in
+          let at_end : c.args.at + i - 1 ≡ c.args.at + length before - 1 = omega (arith, length-map (take i new) stored_line, length-take i new, inv.within) in
+          let rest : List (List ℕ) = map stored_line (drop (i + n) new) in
+          let after : map stored_line (drop i new) ≡ all_lines more ++ rest = lines_next new run i n inv.within run_is in
+          let full : ArePacked more rest = subst (λ rs. ArePacked rs rest) (sym c.deref.ensures.value)
+          (subst (λ ls. ArePacked c.in_ok-filled.filled.runs.items (map stored_line ls)) (ap (λ ls. drop n ls) all ∙ sym (drop_both new i n inv.within)) c.in_ok-filled.ensures.packed) in
+          let old = data_blocks (g.P.Pages.shows c.runs.pages).present c.runs.now.height in
+          let blocks = data_blocks (g.P.Pages.shows c.put_runs.new.pages).present c.in_ok-now.now.height in
+          let put = put_more old blocks c.args.at more before _ rest (inv.packed told) (subst (λ k. Cuts old k (Spreads more) blocks) at_end (c.in_ok-now.ensures.cuts told))
+          (subst (λ (bs : List (List (List ℕ))). AllHaveLines bs) (sym c.deref.ensures.value) c.in_ok-filled.ensures.each) after full in
+          subst (λ ls. ArePut blocks c.args.at ls rest) now_put put;
       works = λ told lines has small. absurd (omega (arith, small.0, inv.some, c.runs-test.true));
       kept = Continues-trans g.met.P.Pages.stays_on inv.kept c.put_runs.ensures.kept;
       faults = c.in_ok-now.ensures.cause.none (λ failed. absurd (cc)) ∙ inv.faults;
@@ -111,3 +134,16 @@ returns-then-is_empty-clause-none g c = λ none. (refl, λ told. (refl, refl))
 
 pub returns-clause-none : goal.returns-clause-none
 returns-clause-none g c = λ none. absurd (omega (arith, none, c.runs.invariant.more))
+
+pub returns-then-is_empty-clause-packed : goal.returns-then-is_empty-clause-packed
+returns-then-is_empty-clause-packed g c = λ told some.
+    absurd (omega (arith, some, length-map c.args.new.now stored_line, no_lines (length c.args.new.now) c.is_empty.result c.is_empty.ensures c.if-is_empty.true))
+
+pub returns-clause-packed : goal.returns-clause-packed
+returns-clause-packed g c = λ told some.
+    let new : List (List ℕ) = c.args.new.now in
+    let put : ℕ = c.runs.put in
+    let all : take put new ≡ new = take_all new put (omega (arith, c.runs-test.false)) in
+    let none : drop put new ≡ [] = drop_all put new (omega (arith, c.runs-test.false)) in
+    let blocks = data_blocks (g.P.Pages.shows c.runs.pages).present c.runs.now.height in
+    subst (λ ls. ArePut blocks c.args.at (map stored_line ls) []) all (subst (λ ls. ArePut blocks c.args.at (map stored_line (take put new)) (map stored_line ls)) none (c.runs.invariant.packed told))

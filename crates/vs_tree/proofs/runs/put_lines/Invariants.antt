@@ -1,8 +1,11 @@
-use Rattle.std.proofs.Common.{◌≡◌, ℕ, ◌+◌, ◌-◌, ◌*◌, ◌<◌, ◌≤◌, List, All, IsTrue, length, take}
+use Rattle.std.proofs.Common.{◌≡◌, ℕ, ◌+◌, ◌-◌, ◌*◌, ◌<◌, ◌≤◌, List, All, IsTrue, drop, length, map, take}
 use Rattle.vs_pages.specs.Calls.{Continues}
 use Rattle.vs_tree_shape.specs.Works.{WorksBesideZero}
+use Rattle.vs_text.specs.Text.{stored_line}
+use Rattle.vs_tree_blocks.specs.Blocks.{data_blocks}
 use Rattle.vs_tree_blocks.specs.Edits.{FitsPage}
 use Rattle.vs_tree.specs.Fills.{StaysFilled}
+use Rattle.vs_tree.specs.Packed.{ArePut}
 use Rattle.vs_tree.specs.Runs.{HasTree, with_lines}
 use Rattle.vs_tree.proofs.runs.put_lines.Given as goal
 
@@ -15,6 +18,7 @@ invariant-runs g l = record {
   higher : l.now.height ≤ l.fn.root.height + l.put;
   more : 0 < length l.new;
   filled : StaysFilled g.P.Pages l.fn.pages l.pages l.fn.root l.now;
+  packed : IsTrue g.P.Pages.tells → ArePut (data_blocks (g.P.Pages.shows l.pages).present l.now.height) l.at (map stored_line (take l.put l.new)) (map stored_line (drop l.put l.new));
   works : IsTrue g.P.Pages.tells → (lines : List (List ℕ)) → HasTree (g.P.Pages.shows l.fn.pages).present l.fn.root lines → (length l.new ≤ 1) × All FitsPage l.new
       → WorksBesideZero (g.P.Pages.shows l.fn.pages).worked (g.P.Pages.shows l.pages).worked (2 * l.fn.root.height + 4);
   kept : Continues g.P.Pages l.fn.pages l.pages;

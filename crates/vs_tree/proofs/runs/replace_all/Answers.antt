@@ -1,4 +1,6 @@
-use Rattle.std.proofs.Common.{◌≡◌, ℕ, suc, ◌+◌, ◌-◌, ◌*◌, ◌≤◌, List, refl, sym, ap, subst, inl, arith, All}
+use Rattle.std.proofs.Common.{◌≡◌, ℕ, suc, ◌+◌, ◌-◌, ◌*◌, ◌≤◌, List, [], length, map, refl, sym, ap, subst, inl, arith, All}
+use Rattle.std.proofs.lemmas.List.{length-map}
+use Rattle.vs_text.specs.Text.{stored_line}
 use Rattle.vs_pages.proofs.Steps.{Continues-trans}
 use Rattle.vs_tree_shape.proofs.Working.{works_beside, works_then, works_from}
 use Rattle.vs_pages.specs.Maps.{Map}
@@ -8,6 +10,7 @@ use Rattle.vs_tree_blocks.specs.Blocks.{tree_format}
 use Rattle.vs_tree_blocks.specs.Edits.{FitsPage}
 use Rattle.vs_tree.specs.declared.walk.Root.{Root}
 use Rattle.vs_tree.specs.Runs.{HasTree, with_lines, without_lines}
+use Rattle.vs_tree.proofs.OwnBlocks.{put_kept}
 use Rattle.vs_tree.proofs.Rounds.{all_out, last_out, bytes_last, bytes_kept}
 use Rattle.vs_tree.proofs.StoredLemmas.{bytes_of-with}
 use Rattle.vs_tree.proofs.runs.replace_all.Goals as goal
@@ -78,3 +81,8 @@ returns-clause-filled g c = λ single told f.
     subst (λ (h : ℕ). HasFilledRoot tree_format n (suc 32) h) (sym c.in_ok-most.ensures.level) (subst (λ (k : Map). HasFilledRoot tree_format k (suc 32) height) (sym (same.1 told).0) more) in
     let left : 1 ≤ c.in_ok-last.last.root.lines = omega (arith, c.in_ok-last.ensures.lines, c.in_ok-now.ensures.lines, c.in_ok-most.ensures.lines, c.requires.come, c.requires.some) in
     c.in_ok-last.ensures.filled refl left 32 (omega arith) (omega arith) told (c.in_ok-now.ensures.filled (suc 32) (omega arith) (omega arith) told here)
+
+pub returns-clause-packed : goal.returns-clause-packed
+returns-clause-packed g c = λ told some.
+    let new : List (List ℕ) = c.args.new.now in
+    put_kept _ _ 0 (length new) (map stored_line new) [] (c.in_ok-now.ensures.packed told some) (omega (arith, length-map new stored_line)) (c.in_ok-last.ensures.before told)

@@ -13,6 +13,7 @@ use Rattle.vs_tree_blocks.specs.Edits.{FitsPage}
 use Rattle.vs_tree.specs.Runs.{HasTree, without_lines, run_of}
 use Rattle.vs_tree.proofs.Rounds.{length_without, take_next, bytes_next, bytes_run, without_none}
 use Rattle.vs_tree.proofs.Bounds.{slight_at}
+use Rattle.vs_tree.proofs.RunBlocks.{keeps_on, taken_start}
 use Rattle.vs_tree.proofs.runs.take_lines.Goals as goal
 
 pub rounds-init : goal.rounds-init
@@ -23,6 +24,7 @@ rounds-init g c = record {
   lines = omega arith;
   level = refl;
   start = λ none. (refl, λ told. (refl, refl));
+  before = λ told front back start others is some few. record { behind = others; back = back; all_are = is; less = omega arith };
   filled = λ one some left. absurd (omega (arith, some));
   thins = λ one some. absurd (omega (arith, some));
   works = λ told lines has small. works_idle _ _ _ refl;
@@ -56,6 +58,9 @@ rounds-preserved g c =
       lines = omega (arith, c.in_ok-after.ensures.lines, inv.lines);
       level = c.in_ok-after.ensures.level (omega arith) ∙ inv.level;
       start = λ none. absurd (omega (arith, none, took.0));
+      before = λ told front back start others is some few.
+          let kept = inv.before told front back start others is some few in
+          keeps_on _ front start others kept.behind (taken_start _ _ c.args.at (c.args.count - c.rounds.removed) gone front kept.back start kept.behind (c.in_ok-after.ensures.cuts told) kept.all_are some few) kept.less;
       filled = λ one some left least low half told f.
           let none : c.rounds.removed ≡ 0 = omega (arith, one, c.rounds-test.true) in
           let here : HasFilledRoot tree_format (g.P.Pages.shows c.rounds.pages).present (suc least) c.rounds.now.height =
@@ -105,3 +110,6 @@ returns-clause-filled g c = λ one left. c.rounds.invariant.filled one (omega (a
 
 pub returns-clause-thins : goal.returns-clause-thins
 returns-clause-thins g c = λ one. c.rounds.invariant.thins one (omega (arith, one, c.rounds-test.false))
+
+pub returns-clause-before : goal.returns-clause-before
+returns-clause-before g c = c.rounds.invariant.before
