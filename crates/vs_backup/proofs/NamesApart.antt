@@ -1,9 +1,9 @@
 -- A desk that reads its text from the swap files reads none of the names of a write: their last bytes differ.
-use Rattle.std.proofs.Common.{◌≡◌, ◌≢◌, ◌⊎◌, inl, inr, ℕ, [], ◌∷◌, ◌++◌, codes, Bool, true, false, ◌||◌, None, refl, sym, ◌∙◌, ap, arith, append_assoc}
+use Rattle.std.proofs.Common.{◌≡◌, ◌≢◌, ◌⊎◌, inl, inr, ℕ, [], ◌∷◌, ◌++◌, codes, Bool, true, false, ◌||◌, IsTrue, None, refl, sym, ◌∙◌, ap, arith, append_assoc}
 use Rattle.std.proofs.lemmas.List.{same_from_push}
 use Rattle.std.proofs.lemmas.Bool.{true≢false}
 use Rattle.vs_host.specs.Disk.{Disk, Name}
-use Rattle.vs_host.specs.Names.{AreNames, hidden, swp_of, swo_of, temporary}
+use Rattle.vs_host.specs.Names.{AreNames, hidden, is_allowed, names_of_file, swp_of, swo_of, temporary}
 use Rattle.vs_host.specs.declared.names.Names.{Names}
 use Rattle.vs_host.proofs.Apart.{names_apart}
 use Rattle.vs_backup.specs.Backups.{IsBackupName, backs_up, backup_of}
@@ -20,6 +20,10 @@ swo_end name = sym (append_assoc (hidden name) (codes ".sw") (111 ∷ []))
 
 temporary_end : (name : Name) → temporary name ≡ (name ++ codes ".vsne") ++ 119 ∷ []
 temporary_end name = sym (append_assoc name (codes ".vsne") (119 ∷ []))
+
+-- the names of a file whose name is allowed
+pub are_names : (name : Name) → IsTrue (is_allowed name) → AreNames (names_of_file name)
+are_names name allowed = record { allowed = allowed; others = refl }
 
 module _ (names : Names) (are : AreNames names) where
   swp_is : names.swp ≡ (hidden names.file ++ codes ".sw") ++ 112 ∷ []

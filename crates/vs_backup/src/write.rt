@@ -2,7 +2,7 @@
 ghost use Rattle.std.specs.Prelude.{◌≡◌, ◌≢◌, ◌⊎◌, true, false, ℕ, List, [], ◌∷◌, length, IfOk, IfSome, MatchOption, IsErrOf, IsTrue, Some, None, IsSome, string_bytes};
 ghost use Rattle.vs_text.specs.Documents.{file_in};
 ghost use Rattle.vs_host.specs.Disk.{Name, mode_in};
-ghost use Rattle.vs_host.specs.Names.{AreNames, is_allowed, temporary};
+ghost use Rattle.vs_host.specs.Names.{is_allowed, swo_of, swp_of, temporary};
 ghost use Rattle.vs_host.specs.Trace.{Looked};
 ghost use Rattle.vs_host.specs.World.{IsTold, content_of};
 ghost use Rattle.vs_backup.specs.Backups.{IsBackupName, IsNoName, WorksOn, backs_up, backup_of, copies};
@@ -19,7 +19,6 @@ use crate::fill::PIECE;
 use crate::plain::{write_fresh, write_plain};
 use crate::{CopyMode, Desk, WriteOptions};
 use std::alloc::{AllocError, Global};
-use vs_host::Names;
 use vs_text::Format;
 
 /// Whether the file is copied to its backup, and not renamed.
@@ -236,79 +235,74 @@ fn write_there<D: Desk>(
     without_backup(write_unbacked(alloc, desk, name, options.format))
 }
 
-/// Writes the text of the desk into the file of these names, by these options (docs/FORMATS.md, "Writing a file"). Gives the number of
-/// bytes.
+/// Writes the text of the desk into the file of this name, by these options (docs/FORMATS.md, "Writing a file"). Gives the number of
+/// bytes. A file that is not there is made as `file_new` before it is renamed.
 ///
 /// A write that has a backup and stops is put back. After an error `old_in` says where the old bytes stand: in the backup only where
 /// putting back failed too. A backup that should have gone may still be there after `Ok`.
 pub fn write_out<D: Desk>(
     alloc: Global,
     desk: &mut D,
-    names: &Names,
+    name: &str,
+    file_new: &str,
     options: &WriteOptions,
 ) -> Result<u64, WriteErr>
     requires valid { D.valid desk.old }
-    requires names { AreNames names.now }
-    requires reads { (name : Name) → D.reads desk.old name → (name ≡ names.now.swp) ⊎ (name ≡ names.now.swo) }
+    requires allowed { IsTrue (is_allowed name.now) }
+    requires file_new { file_new.now ≡ temporary name.now }
+    requires reads { (other : Name) → D.reads desk.old other → (other ≡ swp_of name.now) ⊎ (other ≡ swo_of name.now) }
 
     // The look whether there is a file is the first call: before it, not even want of memory is answered.
     ensures looked { IsTrue (D.tells).folder
-        → IsUnseen (D.scene desk.old) (D.scene desk.new) result ⊎ BeginsByLook names.now.file (D.scene desk.old) (D.scene desk.new) }
+        → IsUnseen (D.scene desk.old) (D.scene desk.new) result ⊎ BeginsByLook name.now (D.scene desk.old) (D.scene desk.new) }
 
     // A file that is there, with a backup.
-    ensures backed { IsTrue (D.tells).folder → (old : List ℕ) → content_of (D.scene desk.old) names.now.file ≡ Some old
-        → (backup : Name) → backup_of options.now names.now.file (D.scene desk.old).folder ≡ Some backup → (text : List (List ℕ)) → D.has_text desk.old text
+    ensures backed { IsTrue (D.tells).folder → (old : List ℕ) → content_of (D.scene desk.old) name.now ≡ Some old
+        → (backup : Name) → backup_of options.now name.now (D.scene desk.old).folder ≡ Some backup → (text : List (List ℕ)) → D.has_text desk.old text
         → IsUnseen (D.scene desk.old) (D.scene desk.new) result
-        ⊎ WritesWith options.now names.now.file backup old (file_in options.now.format text) (D.scene desk.old) (D.scene desk.new) result }
+        ⊎ WritesWith options.now name.now backup old (file_in options.now.format text) (D.scene desk.old) (D.scene desk.new) result }
 
     // A file that is there, where every backup name is taken.
-    ensures all_taken { IsTrue (D.tells).folder → IsSome (content_of (D.scene desk.old) names.now.file)
-        → backs_up options.now ≡ true → backup_of options.now names.now.file (D.scene desk.old).folder ≡ None
+    ensures all_taken { IsTrue (D.tells).folder → IsSome (content_of (D.scene desk.old) name.now)
+        → backs_up options.now ≡ true → backup_of options.now name.now (D.scene desk.old).folder ≡ None
         → IsUnseen (D.scene desk.old) (D.scene desk.new) result ⊎ FindsNoName (D.scene desk.old) (D.scene desk.new) result }
-    ensures no_name { IsErrOf result WriteErr.NoBackupName → IsNoName options.now names.now.file (D.tells).folder (D.scene desk.old).folder }
+    ensures no_name { IsErrOf result WriteErr.NoBackupName → IsNoName options.now name.now (D.tells).folder (D.scene desk.old).folder }
 
     // A file that is there, with a backup, whose old bytes are said to stand nowhere: the look whether it is there is the only call,
     // and failed.
-    ensures unseen { IsTrue (D.tells).folder → IsSome (content_of (D.scene desk.old) names.now.file) → backs_up options.now ≡ true →
+    ensures unseen { IsTrue (D.tells).folder → IsSome (content_of (D.scene desk.old) name.now) → backs_up options.now ≡ true →
         OldIn Place.Nowhere result
-        → IsTold Looked (names.now.file ∷ []) result (D.scene desk.old) (D.scene desk.new) }
+        → IsTold Looked (name.now ∷ []) result (D.scene desk.old) (D.scene desk.new) }
 
     // A file that is there, without a backup.
-    ensures plain { IsTrue (D.tells).folder → (old : List ℕ) → content_of (D.scene desk.old) names.now.file ≡ Some old
+    ensures plain { IsTrue (D.tells).folder → (old : List ℕ) → content_of (D.scene desk.old) name.now ≡ Some old
         → backs_up options.now ≡ false → (text : List (List ℕ)) → D.has_text desk.old text
         → IsUnseen (D.scene desk.old) (D.scene desk.new) result
-        ⊎ WritesInPlace names.now.file old (file_in options.now.format text) (D.scene desk.old) (D.scene desk.new) result }
+        ⊎ WritesInPlace name.now old (file_in options.now.format text) (D.scene desk.old) (D.scene desk.new) result }
 
     // A file that is not there.
-    ensures fresh { IsTrue (D.tells).folder → content_of (D.scene desk.old) names.now.file ≡ None → (text : List (List ℕ)) → D.has_text desk.old text
+    ensures fresh { IsTrue (D.tells).folder → content_of (D.scene desk.old) name.now ≡ None → (text : List (List ℕ)) → D.has_text desk.old text
         → IsUnseen (D.scene desk.old) (D.scene desk.new) result
-        ⊎ WritesNew names.now.file_new names.now.file (file_in options.now.format text) (D.scene desk.old) (D.scene desk.new) result }
+        ⊎ WritesNew file_new.now name.now (file_in options.now.format text) (D.scene desk.old) (D.scene desk.new) result }
 
     // The other names, whatever is there.
     ensures others { IsTrue (D.tells).folder
-        → SparesOthers (WorksOn options.now names.now.file (D.scene desk.old).folder) (D.scene desk.old) (D.scene desk.new) }
+        → SparesOthers (WorksOn options.now name.now (D.scene desk.old).folder) (D.scene desk.old) (D.scene desk.new) }
 
     // Who may read the files that it makes: those who may read a file that is there, or its owner alone; and where no file is there, those
     // whom the system lets read a new one.
-    ensures modes { RewritesLike D.tells names.now.file (D.scene desk.old) (D.scene desk.new) }
-    ensures usual { IsTrue (D.tells).folder → content_of (D.scene desk.old) names.now.file ≡ None
+    ensures modes { RewritesLike D.tells name.now (D.scene desk.old) (D.scene desk.new) }
+    ensures usual { IsTrue (D.tells).folder → content_of (D.scene desk.old) name.now ≡ None
         → MakesUsual (D.tells).folder (D.scene desk.old) (D.scene desk.new) }
 
     // The calls that failed.
     ensures calls { IsTrue (D.tells).folder → (text : List (List ℕ)) → D.has_text desk.old text
-        → FailsNoEarlier names.now.file (file_in options.now.format text) (D.scene desk.old) (D.scene desk.new) result }
+        → FailsNoEarlier name.now (file_in options.now.format text) (D.scene desk.old) (D.scene desk.new) result }
     ensures kept { Continues D.scene D.valid D.stays (IsFailed result) desk.old desk.new }
 {
-    let name = names.file.as_str();
     match desk.has(name) {
         Ok(true) => write_there(alloc, desk, name, options),
-        Ok(false) => without_backup(write_new(
-            alloc,
-            desk,
-            name,
-            names.file_new.as_str(),
-            options.format,
-        )),
+        Ok(false) => without_backup(write_new(alloc, desk, name, file_new, options.format)),
         Err(_) => Err(WriteErr::Failed {
             old_in: Place::Nowhere,
         }),

@@ -11,11 +11,7 @@ use Rattle.vs_disk.specs.Names.{SameAt}
 use Rattle.vs_disk.specs.Runs.{Runs}
 use Rattle.vs_disk.proofs.Runs.{runs_as}
 use Rattle.vs_pages.specs.Maps.{Map}
-use Rattle.vs_pages.specs.Memory.{state_of}
-use Rattle.vs_pages.specs.State.{Commits}
-use Rattle.vs_pages.specs.declared.memory.MemPages.{MemPages}
-use Rattle.vs_tree.specs.Texts.{HasText}
-use Rattle.vs_tree.specs.declared.texts.Extent.{Extent}
+use Rattle.vs_pages.specs.State.{PageState}
 use Rattle.vs_tree.specs.declared.tree.LineTree.{LineTree}
 use Rattle.vs_backup.specs.Backups.{IsBackupName, WorksOn, TheFile, TheNewFile, TheBackup, TheCopy, backup_name, backup_of, candidates, first_free, lettered, letters}
 use Rattle.vs_backup.specs.Works.{IsOutside}
@@ -24,17 +20,16 @@ use Rattle.vs_backup.proofs.Choosing.{IsBackupName-lettered, IsBackupName-plain,
 use Rattle.vs_backup.proofs.NamesApart.{backup_apart, file_apart, temporary_apart}
 use Rattle.vs_pair.specs.declared.side.Side.{Side}
 use Rattle.vs_pair.specs.declared.side.Side.TheVariants.{Swp, Swo}
-use Rattle.vs_pair.specs.Pair.{IsFit, Known, held_in, is_swap, known_of, known_with, name_of}
-use Rattle.vs_pair.specs.declared.pair.SwapPair.{SwapPair}
+use Rattle.vs_pair.specs.Held.{KeepsHeld, held_with}
+use Rattle.vs_pair.specs.Lent.{IsReady}
+use Rattle.vs_pair.specs.Pair.{held_in, is_swap, name_of, shown_in}
+use Rattle.vs_pair.proofs.AwayLemmas.{away_same}
 use Rattle.vs_pair.proofs.FitLemmas.{at_side}
-use Rattle.vs_pair.proofs.HeldLemmas.{held_since}
-use Rattle.vs_pair.proofs.Others.{fit_changed}
 use Rattle.vs_safety.specs.Texts.{Sync, Text, recoverable}
 use Rattle.vs_paged.specs.Fits.{Fits, names_of}
 use Rattle.vs_paged.specs.Pages.{IsPaged}
 use Rattle.vs_paged.specs.declared.paged.PagedText.{PagedText}
-use Rattle.vs_paged.proofs.PageLemmas.{filled_stays}
-use Rattle.vs_paged.proofs.SyncLemmas.{fits_kept, fits_recovers}
+use Rattle.vs_paged.proofs.SyncLemmas.{fits_changed, fits_kept, fits_recovers}
 use Rattle.vs_desk.specs.Pages.{SamePages}
 use Rattle.vs_desk.specs.Writes.{KeepsSwap}
 
@@ -87,12 +82,12 @@ chosen_name options name disk backup some chosen = elim (cases_Bool options.back
   ]
 ]
 
-module _ (names : Names) (are : AreNames names) where
+module _ (names : Names) where
   side_name : (side : Side) → (name_of names side ≡ names.swp) ⊎ (name_of names side ≡ names.swo)
   side_name Swp = inl refl
   side_name Swo = inr refl
 
-  swap_name : (name : Name) → is_swap names name ≡ true → (name ≡ names.swp) ⊎ (name ≡ names.swo)
+  pub swap_name : (name : Name) → is_swap names name ≡ true → (name ≡ names.swp) ⊎ (name ≡ names.swo)
   swap_name name is =
       let at = at_side names name (ap not is) in
       subst (λ (n : Name). (n ≡ names.swp) ⊎ (n ≡ names.swo)) (sym at.1) (side_name at.0)
@@ -100,46 +95,30 @@ module _ (names : Names) (are : AreNames names) where
   swap_as : (name other : Name) → name ≡ other → is_swap names name ≡ true → (other ≡ names.swp) ⊎ (other ≡ names.swo)
   swap_as name other same is = subst (λ (n : Name). (n ≡ names.swp) ⊎ (n ≡ names.swo)) same (swap_name name is)
 
+module _ (names : Names) (are : AreNames names) where
   -- a write works on no swap file
   pub swap_outside : (options : WriteOptions) (disk : Disk) → IsOutside (WorksOn options names.file disk) (is_swap names)
-  swap_outside options disk name is (TheFile same) = file_apart names are (swap_as name names.file same is)
-  swap_outside options disk name is (TheNewFile none same) = temporary_apart names are names.file (swap_as name (temporary names.file) same is)
+  swap_outside options disk name is (TheFile same) = file_apart names are (swap_as names name names.file same is)
+  swap_outside options disk name is (TheNewFile none same) = temporary_apart names are names.file (swap_as names name (temporary names.file) same is)
   swap_outside options disk name is (TheBackup backup there chosen same) =
-      backup_apart names are backup (chosen_name options names.file disk backup (some_name names.file are.allowed) chosen) (swap_as name backup same is)
-  swap_outside options disk name is (TheCopy backup there chosen copies same) = temporary_apart names are backup (swap_as name (temporary backup) same is)
+      backup_apart names are backup (chosen_name options names.file disk backup (some_name names.file are.allowed) chosen) (swap_as names name backup same is)
+  swap_outside options disk name is (TheCopy backup there chosen copies same) = temporary_apart names are backup (swap_as names name (temporary backup) same is)
 
 -- ---- the text and its swap files
 
-paged_same : (told : Bool) (p q : MemPages) (t u : LineTree) (text : Text) → IsTrue told → SamePages told p q t u → IsPaged (state_of p) t text → IsPaged (state_of q) u text
-paged_same told p q t u text is same paged = record {
-  present = has_same (λ x. x.present) (same.present is) paged.present;
-  committed = has_same (λ x. x.committed) (same.committed is) paged.committed;
-  filled = record {
-    present = filled_stays _ _ _ _ (same.present is) (ap (λ (x : LineTree). x.present) same.tree) paged.filled.present;
-    committed = filled_stays _ _ _ _ (same.committed is) (ap (λ (x : LineTree). x.committed) same.tree) paged.filled.committed;
-  };
-  idle = same.work is ∙ paged.idle ∙ sym (ap (λ (made : Commits). made.last) (same.commits is));
-}
-  where
-    has_same : {m n : Map} (extent : LineTree → Extent) → n ≡ m → HasText m (extent t) text → HasText n (extent u) text
-    has_same {m} {n} extent pages has = subst (λ (k : Map). HasText k (extent u) text) (sym pages) (subst (λ (x : LineTree). HasText m (extent x) text) (sym same.tree) has)
+-- calls that leave the swap files, and what is shown of the pages
+pub fits_written : (told : Bool) (old new : PagedText) (was now : Disk) (text : Text) (syncs : List Sync) → IsTrue told → SamePages told old.pair new.pair old.tree new.tree was now → IsReady new.pair now
+    → SameAt (is_swap (names_of old)) was now → Fits old was text syncs → Fits new now text syncs
+fits_written told old new was now text syncs is same ready spared fits =
+    let held : KeepsHeld (held_in old.pair now) (held_in new.pair now) =
+    subst (λ (m : Map). KeepsHeld (held_with m old.pair.pages) (held_in new.pair now)) (sym (away_same old.pair.files was now spared)) (same.held is) in
+    let pages : IsPaged (shown_in new.pair now) new.tree text =
+    subst (λ (s : PageState). IsPaged s new.tree text) (sym (same.shown is)) (subst (λ (t : LineTree). IsPaged (shown_in old.pair was) t text) (sym same.tree) fits.pages) in
+    fits_changed old new now text text syncs same.files held pages ready.stored (fits_kept old was now text syncs spared fits)
 
--- calls that leave the swap files, and the pages that are shown
-pub fits_written : (told : Bool) (old new : PagedText) (was now : Disk) (text : Text) (syncs : List Sync) → IsTrue told → known_of new.pair now ≡ known_with old.pair.files (held_in new.pair now)
-    → SamePages told old.pair.pages new.pair.pages old.tree new.tree → SameAt (is_swap (names_of old)) was now → Fits old was text syncs → Fits new now text syncs
-fits_written told old new was now text syncs is known same spared fits =
-    let kept = fits_kept old was now text syncs spared fits in
-    let pair : SwapPair = record old.pair { pages = new.pair.pages } in
-    let fit : IsFit (known_of pair now) now kept.newest kept.later kept.past =
-    fit_changed old.pair pair now kept.newest kept.later kept.past refl (held_since old.pair.pages new.pair.pages same.since) kept.fit in
-    record {
-      pages = paged_same told old.pair.pages new.pair.pages old.tree new.tree text is same fits.pages;
-      newest = kept.newest;
-      later = kept.later;
-      past = kept.past;
-      fit = subst (λ (known : Known). IsFit known now kept.newest kept.later kept.past) (sym known) fit;
-      syncs_are = kept.syncs_are;
-    }
+-- such a text may be lent
+pub fits_ready : (paged : PagedText) (disk : Disk) (text : Text) (syncs : List Sync) → Fits paged disk text syncs → IsReady paged.pair disk
+fits_ready paged disk text syncs fits = record { stored = fits.stored; begun = inr (fits.newest, fits.later, fits.past, fits.fit) }
 
 module _ (paged : PagedText) (text : Text) (syncs : List Sync) (before after : Scene) (fits : Fits paged before.folder text syncs) (runs : Runs (SameAt (is_swap (names_of paged))) before after) where
   pub keeps_swap : Runs (KeepsSwap (names_of paged) (recoverable syncs)) before after

@@ -1,24 +1,27 @@
--- The text and the folder of a desk, while its calls go on.
-use Rattle.std.specs.Prelude.{◌≡◌, Bool, IsTrue}
-use Rattle.vs_host.specs.World.{Tells, Scene, ReadsFolder}
-use Rattle.vs_disk.specs.Faults.{NeverFalls}
-use Rattle.vs_disk.specs.Runs.{Looks}
-use Rattle.vs_pages.specs.Memory.{KeepsSince, commits_of, committed_of, present_of, state_of}
-use Rattle.vs_pages.specs.declared.memory.MemPages.{MemPages}
-use Rattle.vs_tree.specs.Texts.{worked_by}
+-- The text, the swap pair and the folder of a desk, while its calls go on.
+use Rattle.std.specs.Prelude.{◌≡◌, ◌⊎◌, Bool, IsTrue}
+use Rattle.vs_host.specs.Disk.{Disk, Name}
+use Rattle.vs_host.specs.declared.names.Names.{Names}
+use Rattle.vs_tree.specs.Texts.{Fits}
 use Rattle.vs_tree.specs.declared.tree.LineTree.{LineTree}
+use Rattle.vs_pair.specs.Held.{KeepsHeld}
+use Rattle.vs_pair.specs.Lent.{IsReady}
+use Rattle.vs_pair.specs.Pair.{held_in, shown_in}
+use Rattle.vs_pair.specs.declared.pair.SwapPair.{SwapPair}
 
--- The folder was only looked at. The counts at each moment tell when calls failed.
-pub record OnlyLooks (tells : Tells) (old new : Scene) : Type 0 where
-  pub frame : ReadsFolder old new
-  pub looks : IsTrue tells.folder → Looks old new
-  pub counts : IsTrue tells.folder → NeverFalls old new
+-- The name is that of one of the two swap files.
+abbrev pub IsSwapName : Names → Name → Type 0
+IsSwapName names name = (name ≡ names.swp) ⊎ (name ≡ names.swo)
 
--- The tree is the same, and so are the pages where they are told, none of which was worked. Each commit that changed a page is known.
-pub record SamePages (told : Bool) (pages_old pages_new : MemPages) (tree_old tree_new : LineTree) : Type 0 where
+-- The tree fits the pages that the pair shows over this folder, and the pair may be lent.
+pub record IsDesk (told : Bool) (pair : SwapPair) (tree : LineTree) (disk : Disk) : Type 0 where
+  pub fits : Fits told (shown_in pair disk).present tree.present
+  pub ready : IsTrue told → IsReady pair disk
+
+-- The tree and what is known of the swap files are the same. So is what is shown of the pages where it is told, and each commit that
+-- changed a page is known.
+pub record SamePages (told : Bool) (pair_old pair_new : SwapPair) (tree_old tree_new : LineTree) (old new : Disk) : Type 0 where
   pub tree : tree_new ≡ tree_old
-  pub present : IsTrue told → present_of pages_new ≡ present_of pages_old
-  pub committed : IsTrue told → committed_of pages_new ≡ committed_of pages_old
-  pub work : IsTrue told → worked_by (state_of pages_new) ≡ worked_by (state_of pages_old)
-  pub commits : IsTrue told → commits_of pages_new ≡ commits_of pages_old
-  pub since : KeepsSince pages_old pages_new
+  pub files : pair_new.files ≡ pair_old.files
+  pub shown : IsTrue told → shown_in pair_new new ≡ shown_in pair_old old
+  pub held : IsTrue told → KeepsHeld (held_in pair_old old) (held_in pair_new new)

@@ -3,7 +3,7 @@
 
 mod desk;
 mod laws;
-mod pages;
+mod name;
 mod write;
 
 pub use laws::still_names;

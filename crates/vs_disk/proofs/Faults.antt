@@ -1,9 +1,11 @@
 -- Whether calls failed that only looked is told by the counts of faults: by those at the start and now, and by that before the last call.
-use Rattle.std.proofs.Common.{◌≡◌, ◌≤◌, ℕ, List, [], ◌∷◌, ◌++◌, IsTrue, ◌∙◌, ap, arith, if◌then◌else◌}
+use Rattle.std.proofs.Common.{◌≡◌, ◌≤◌, inl, inr, ℕ, List, [], ◌∷◌, ◌++◌, Result, IsTrue, ◌∙◌, ap, arith, if◌then◌else◌}
+use Rattle.std.proofs.lemmas.Bool.{cases_Bool}
 use Rattle.std.proofs.Math.Nat.{le-max_left, le-max_right}
-use Rattle.vs_host.specs.Trace.{Snapshot, Each}
-use Rattle.vs_host.specs.World.{Tells, Scene, ReadsFolder}
-use Rattle.vs_disk.specs.Faults.{HasCounts, NeverFalls, earlier_faults, faults_before, most_faults}
+use Rattle.vs_host.specs.Disk.{Name}
+use Rattle.vs_host.specs.Trace.{Kind, Snapshot, Each, most_faults}
+use Rattle.vs_host.specs.World.{Tells, Scene, IsTold, ReadsFolder}
+use Rattle.vs_disk.specs.Faults.{HasCounts, NeverFalls, earlier_faults, faults_before}
 use Rattle.vs_disk.specs.Runs.{FailsLast, HasNoFault, Quiet}
 use Rattle.vs_disk.proofs.Runs.{goes_none, goes_then, goes_weaker}
 
@@ -60,3 +62,19 @@ last_counted old new never before = from never.moments.added never.moments.is ne
 -- where the trace is told
 pub earlier_told : (tells : Tells) (scene : Scene) → IsTrue tells.folder → earlier_faults tells scene ≡ faults_before scene.trace
 earlier_told tells scene told = ap (λ b. if b then faults_before scene.trace else 0) told
+
+before_most : (trace : List Snapshot) → faults_before trace ≤ most_faults trace
+before_most [] = omega arith
+before_most (m ∷ ms) = le-max_right m.folder_faults (most_faults ms)
+
+-- Where no snapshot has a count above that before a call, the count before its snapshot is not above that.
+pub earlier_once : {T E : Type 0} (tells : Tells) (kind : Kind) (names : List Name) (result : Result T E) (old new : Scene)
+    → (IsTrue tells.folder → most_faults old.trace ≤ old.folder_faults) → (IsTrue tells.folder → IsTold kind names result old new)
+    → earlier_faults tells new ≤ old.folder_faults
+earlier_once tells kind names result old new counted told = elim (cases_Bool tells.folder) [
+  | inl is_told ↦ elim (told is_told) [
+    | inl recorded ↦ omega (arith, counted is_told, earlier_told tells new is_told, ap faults_before recorded)
+    | inr left ↦ omega (arith, counted is_told, earlier_told tells new is_told, ap faults_before left.1.trace, before_most old.trace)
+  ]
+  | inr untold ↦ omega (arith, ap (λ b. if b then faults_before new.trace else 0) untold)
+]

@@ -1,6 +1,6 @@
 -- The count of the folder's faults at the moments of a call that only looks, and before the last call on the host.
-use Rattle.std.specs.Prelude.{◌≡◌, ◌≤◌, ℕ, List, [], ◌∷◌, max, if◌then◌else◌}
-use Rattle.vs_host.specs.Trace.{Snapshot, GoesOn}
+use Rattle.std.specs.Prelude.{◌≡◌, ◌≤◌, ℕ, List, [], ◌∷◌, if◌then◌else◌}
+use Rattle.vs_host.specs.Trace.{Snapshot, GoesOn, most_faults}
 use Rattle.vs_host.specs.World.{Tells, Scene}
 
 -- The other counts are as at the start, and that of the folder's faults is not below the one at the start or above the one at the end.
@@ -14,11 +14,6 @@ pub record HasCounts (old new : Scene) (snapshot : Snapshot) : Type 0 where
 pub record NeverFalls (old new : Scene) : Type 0 where
   pub later : old.folder_faults ≤ new.folder_faults
   pub moments : GoesOn (HasCounts old new) old.trace new.trace
-
--- the greatest count of the folder's faults in these snapshots
-abbrev pub most_faults : List Snapshot → ℕ
-most_faults [] = 0
-most_faults (m ∷ ms) = max m.folder_faults (most_faults ms)
 
 -- the greatest count of the folder's faults in all of these snapshots but the newest
 abbrev pub faults_before : List Snapshot → ℕ

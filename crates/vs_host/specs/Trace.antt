@@ -1,5 +1,5 @@
 -- The trace: a snapshot of the outside at the start and after each call, the newest first.
-use Rattle.std.specs.Prelude.{◌≡◌, ℕ, ◌+◌, Bool, false, List, [], ◌∷◌, ◌++◌, if◌then◌else◌}
+use Rattle.std.specs.Prelude.{◌≡◌, ℕ, ◌+◌, max, Bool, false, List, [], ◌∷◌, ◌++◌, if◌then◌else◌}
 use Rattle.std.specs.Str.{bytes_eq}
 use Rattle.vs_host.specs.Disk.{Disk, Name}
 
@@ -39,6 +39,11 @@ is_write_on name kind names = false
 abbrev pub writes_in : List Snapshot → Name → ℕ
 writes_in [] name = 0
 writes_in (snapshot ∷ trace) name = if is_write_on name snapshot.kind snapshot.names then writes_in trace name + 1 else writes_in trace name
+
+-- the greatest count of the folder's faults in these snapshots
+abbrev pub most_faults : List Snapshot → ℕ
+most_faults [] = 0
+most_faults (snapshot ∷ trace) = max snapshot.folder_faults (most_faults trace)
 
 -- each element has P
 abbrev pub Each : {X : Type 0} → (X → Type 0) → List X → Type 0

@@ -3,7 +3,7 @@ ghost use Rattle.std.specs.Prelude.{◌≡◌, ◌≢◌, ◌<◌, ◌≤◌, �
 ghost use Rattle.vs_faults.specs.Faults.{HasRisen, HasCause};
 ghost use Rattle.vs_host.specs.File.{Writes, WritesSome, Cuts, Syncs};
 ghost use Rattle.vs_host.specs.Disk.{ChangesFile, ChangesNames, CreatesFile, SyncsNames, IsFolder, MayBeLike, Renames, Removes, like, mode_in, owner_mode};
-ghost use Rattle.vs_host.specs.Trace.{ReadScript, WroteOutput, Looked, Created, Measured, Read, Wrote, Cut, Synced, Renamed, Removed, SyncedNames};
+ghost use Rattle.vs_host.specs.Trace.{ReadScript, WroteOutput, Looked, Created, Measured, Read, Wrote, Cut, Synced, Renamed, Removed, SyncedNames, most_faults};
 ghost use Rattle.vs_host.specs.World.{Tells, Scene, HasNewest, content_of, IsTold, CountsFault, ChangesScript, ChangesOutput, ChangesClock, ReadsFolder, ChangesFolder};
 
 /// A call on the host failed. Only the counts of faults say more.
@@ -25,6 +25,8 @@ pub trait World {
     ghost is_folder: { (host : Self) → IsTrue tells.folder → IsFolder (scene host).folder };
     /// The newest snapshot is that of folder and output as they are.
     ghost newest: { (host : Self) → IsTrue tells.folder → HasNewest (scene host) };
+    /// No snapshot has a count of the folder's faults above the one now.
+    ghost counted: { (host : Self) → IsTrue tells.folder → most_faults (scene host).trace ≤ (scene host).folder_faults };
 }
 
 /// The script of Ex commands, as a stream of bytes.

@@ -95,6 +95,8 @@ impl World for RealHost {
     ghost is_folder = { λ host told. never told };
 
     ghost newest = { λ host told. never told };
+
+    ghost counted = { λ host told. never told };
 }
 
 impl Script for RealHost {

@@ -7,7 +7,7 @@ use Rattle.std.specs.declared.alloc.AllocError.{AllocError}
 use Rattle.std.proofs.lemmas.Bool.{cond-true, cond-false}
 use Rattle.std.proofs.lemmas.Bool.Decides.{nat_tests}
 use Rattle.vs_host.specs.File.{File, Writes, WritesSome, Cuts, Syncs, written, cut_to, synced_file}
-use Rattle.vs_host.specs.Disk.{Disk, Name, names_of, read_under, content_in, ChangesFile, MayBeLike, like}
+use Rattle.vs_host.specs.Disk.{Disk, Name, names_of, read_under, content_in, ChangesFile, like}
 use Rattle.vs_memory.specs.declared.log.Call.{Call}
 use Rattle.vs_memory.specs.declared.log.Call.TheVariants.{Sync, SyncLike, Cut, WriteAt}
 use Rattle.vs_memory.specs.Memory.{Memory, recorded, counted, folder_of}

@@ -1,6 +1,8 @@
 -- A host in memory, as its users see it.
-use Rattle.std.specs.Prelude.{◌≡◌, ◌⊎◌, ◌<◌, ℕ, ◌+◌, ◌-◌, ◌^◌, min, Bool, false, Contains, List, [], ◌∷◌, ◌++◌, length}
+use Rattle.std.specs.Prelude.{◌≡◌, ◌⊎◌, ◌<◌, ℕ, ◌+◌, ◌-◌, ◌^◌, min, max, Bool, false}
+use Rattle.std.specs.Prelude.{Contains, List, [], ◌∷◌, ◌++◌, length}
 use Rattle.vs_host.specs.Disk.{Disk}
+use Rattle.vs_host.specs.Trace.{most_faults}
 use Rattle.vs_host.specs.World.{Scene}
 use Rattle.vs_memory.specs.declared.log.Call.{Call}
 use Rattle.vs_memory.specs.declared.log.Entry.{Entry}
@@ -31,7 +33,8 @@ folder_of host = disk_after host.base host.log
 abbrev pub output_of : Memory → List ℕ
 output_of host = output_after host.log
 
--- the outside that it plays
+-- The outside that it plays. By a law of the trait `World` no snapshot has more of the folder's faults than the scene, and the law is
+-- on every `Memory`: hence `max`. The log of a host has no more of them than the host has counted, so the scene has the host's count.
 abbrev pub scene_of : Memory → Scene
 scene_of host = record {
   folder = folder_of host;
@@ -40,9 +43,13 @@ scene_of host = record {
   answers = host.answers;
   script_faults = host.script_faults;
   out_faults = host.out_faults;
-  folder_faults = host.folder_faults;
+  folder_faults = max host.folder_faults (most_faults (trace_after host.base host.log));
   trace = trace_after host.base host.log;
 }
+
+-- the scene has the host's count of the folder's faults
+abbrev pub ShowsCount : Memory → Type 0
+ShowsCount host = (scene_of host).folder_faults ≡ host.folder_faults
 
 -- an empty folder, and the script whole
 abbrev pub fresh_memory : List ℕ → Memory
@@ -108,7 +115,7 @@ abbrev pub unlogged : Memory → ℕ
 unlogged host = host.calls - length host.log
 
 -- A call of the host counts one. The planned one fails, and else only one that is not logged, for want of memory. One that fails
--- changes nothing, and the plan stays.
+-- changes nothing, and the plan stays. Before and after it, the scene has the host's count of the folder's faults.
 pub record IsPlayed (old new : Memory) (ok : Bool) : Type 0 where
   pub calls : new.calls ≡ min (old.calls + 1) (2 ^ 64 - 1)
   pub planned : IsPlanned old new.calls → ok ≡ false
@@ -120,3 +127,5 @@ pub record IsPlayed (old new : Memory) (ok : Bool) : Type 0 where
   pub failing : new.failing ≡ old.failing
   pub stop : new.stop ≡ old.stop
   pub clock : new.clock ≡ old.clock
+  pub shown_old : ShowsCount old
+  pub shown_new : ShowsCount new

@@ -4,13 +4,14 @@ use Rattle.std.proofs.Common.{sym, ◌∙◌, subst, arith}
 use Rattle.std.specs.Str.{bytes_eq}
 use Rattle.std.proofs.lemmas.Bool.{cases_Bool, cond-true, cond-false, false≢true}
 use Rattle.std.proofs.lemmas.Slice.Eq.{bytes_eq-Decides}
+use Rattle.std.proofs.Math.Nat.{le-max_right}
 use Rattle.std.specs.Prelude.{string_bytes}
 use Rattle.vs_host.specs.File.{File, written, cut_to, synced_file}
 use Rattle.vs_host.specs.Disk.{Disk, Name, Directory, Mode, like, Change, Creates, Renames, Removes, changed_names, after_changes, names_of, names_at, IsFolder}
 use Rattle.vs_memory.specs.declared.log.Call.{Call}
 use Rattle.vs_memory.specs.declared.log.Entry.{Entry}
 use Rattle.vs_memory.specs.Folders.{no_names, on_number, with_file, with_change, with_names}
-use Rattle.vs_host.specs.Trace.{Snapshot}
+use Rattle.vs_host.specs.Trace.{Snapshot, most_faults}
 use Rattle.vs_host.specs.World.{HasNewest}
 use Rattle.vs_memory.specs.Memory.{Memory, scene_of}
 use Rattle.vs_memory.specs.Replay.{played, disk_after, output_after, trace_after, began, logged, base_disk}
@@ -186,3 +187,7 @@ traced base (entry ∷ log) = record { newest = logged base entry log; older = t
 -- the newest snapshot is that of the folder and the output as they are
 pub newest : (host : Memory) → HasNewest (scene_of host)
 newest host = let t = traced host.base host.log in record { newest = t.newest; older = t.older; is = t.is; folder = t.folder; output = t.output }
+
+-- no snapshot has a count of the folder's faults above the one now
+pub most_counted : (host : Memory) → most_faults (scene_of host).trace ≤ (scene_of host).folder_faults
+most_counted host = le-max_right host.folder_faults (most_faults (trace_after host.base host.log))

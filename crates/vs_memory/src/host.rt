@@ -4,7 +4,7 @@ ghost use Rattle.vs_faults.specs.Faults.{HasRisen};
 ghost use Rattle.vs_memory.specs.declared.log.Part.{Part};
 ghost use Rattle.vs_memory.specs.Present.{disk_in};
 ghost use Rattle.vs_memory.specs.Replay.{played, said, CanPlay};
-ghost use Rattle.vs_memory.specs.Memory.{counted, faulted, recorded, entry_of, faults_of, folder_of, IsPlanned};
+ghost use Rattle.vs_memory.specs.Memory.{counted, faulted, recorded, entry_of, faults_of, folder_of, IsPlanned, ShowsCount};
 
 use crate::folder::MemFolder;
 use crate::log::{Call, Entry, Part};
@@ -83,7 +83,7 @@ impl Model for MemHost {
       stop = s.stop;
     } };
 
-    ghost invariant = { λ s. IsHost s.folder s.output.items (puts s.base.items) (reverse s.log.items) s.calls s.script_at (vec_len s.script) };
+    ghost invariant = { λ s. IsHost s.folder s.output.items (puts s.base.items) (reverse s.log.items) s.calls s.folder_faults s.script_at (vec_len s.script) };
 }
 
 /// Makes of folder and output what the call makes of them.
@@ -129,6 +129,7 @@ impl MemHost {
     pub(crate) fn fails_now(&mut self) -> bool
         ensures counted { self.new ≡ counted self.old }
         ensures room { length self.new.log < self.new.calls }
+        ensures shown { ShowsCount self.old }
         ensures faults { (part : Part) → faults_of part self.new ≡ faults_of part self.old }
         ensures planned { IsTrue result ↔ IsPlanned self.old self.new.calls }
     {
@@ -140,6 +141,7 @@ impl MemHost {
         ensures faulted { self.new ≡ faulted part self.old }
         ensures later { faults_of part self.old ≤ faults_of part self.new }
         ensures rose { HasRisen (faults_of part self.old) (faults_of part self.new) }
+        ensures shown { ShowsCount self.new }
     {
         match part {
             Part::Script => self.script_faults = self.script_faults.saturating_add(1),

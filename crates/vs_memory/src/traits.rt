@@ -1,6 +1,6 @@
 // The traits of a host.
 ghost use Rattle.std.specs.Prelude.{◌≡◌, ◌<◌, ◌^◌, true, IfOk, length, string_bytes};
-ghost use Rattle.vs_memory.specs.Memory.{answered, faulted};
+ghost use Rattle.vs_memory.specs.Memory.{answered, faulted, ShowsCount};
 
 use crate::file::{OWNER_MODE, USUAL_MODE};
 use crate::host::MemHost;
@@ -10,7 +10,7 @@ use vs_host::{Clock, Failed, Folder, Host, Out, Script, World};
 
 impl World for MemHost {
     ghost use Rattle.vs_memory.specs.Memory.{scene_of, IsPlayed};
-    ghost use Rattle.vs_memory.specs.Validity.{is_folder, newest};
+    ghost use Rattle.vs_memory.specs.Validity.{is_folder, newest, most_counted};
 
     ghost tells = { record { folder = true; output = true; script = true; clock = true } };
 
@@ -21,6 +21,8 @@ impl World for MemHost {
     ghost is_folder = { λ host told. is_folder host.base host.log };
 
     ghost newest = { λ host told. newest host };
+
+    ghost counted = { λ host told. most_counted host };
 }
 
 impl Out for MemHost {
@@ -128,7 +130,8 @@ impl Folder for MemHost {
 
     // No caller can meet what the trait asks for, since this host tells its folder. So the condition is left out here.
     fn damaged(&mut self)
-        ensures { self.new ≡ faulted Part.Folder self.old }
+        ensures host { self.new ≡ faulted Part.Folder self.old }
+        ensures shown { ShowsCount self.new }
     {
         self.folder_faults = self.folder_faults.saturating_add(1);
     }

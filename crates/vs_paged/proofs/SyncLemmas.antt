@@ -5,19 +5,23 @@ use Rattle.vs_host.specs.Disk.{Disk}
 use Rattle.vs_host.specs.declared.names.Names.{Names}
 use Rattle.vs_host.specs.Names.{is_allowed, names_of_file}
 use Rattle.vs_disk.specs.Names.{SameAt}
-use Rattle.vs_pages.specs.Memory.{present_of}
+use Rattle.vs_pages.specs.Maps.{Map}
+use Rattle.vs_pages.specs.Memory.{present_of, state_of, state_under, AreBacked}
 use Rattle.vs_pages.specs.State.{PageState}
 use Rattle.vs_text.specs.declared.format.Format.{Format}
 use Rattle.vs_text.specs.declared.format.Format.TheVariants.{Unix, Dos}
 use Rattle.vs_text.specs.Documents.{Document}
 use Rattle.vs_swap.specs.Files.{format_number}
 use Rattle.vs_pair.specs.Swap.{Synced, IsFormatNumber, body_of, zero_of, Holds}
-use Rattle.vs_pair.specs.Held.{KeepsHeld}
+use Rattle.vs_pair.specs.Cached.{IsCacheOf, was_away}
+use Rattle.vs_pair.specs.Held.{KeepsHeld, held_with}
+use Rattle.vs_pair.specs.Lent.{IsStored}
 use Rattle.vs_pair.specs.Pair as pair
-use Rattle.vs_pair.specs.Pair.{Image, IsIn, IsDocumentOf, IsFit, held_in, known_of, shown_in, sync_of, sync_with, is_swap, HasEarlier, HasLater, IsThere, NoneThere, name_of, other_side}
+use Rattle.vs_pair.specs.Pair.{Image, IsIn, IsDocumentOf, IsFit, away_of, held_in, known_of, known_with, shown_in, sync_fresh, sync_of, sync_with, is_swap, HasEarlier, HasLater, IsThere, NoneThere, name_of, other_side}
 use Rattle.vs_pair.specs.Steps as steps
 use Rattle.vs_pair.specs.declared.head.Head.{Head}
 use Rattle.vs_pair.specs.declared.pair.SwapPair.{SwapPair}
+use Rattle.vs_pair.proofs.AwayLemmas.{away_same}
 use Rattle.vs_pair.proofs.Offers.{holds_stands, offered_recovered}
 use Rattle.vs_pair.proofs.Reading.{holds_reads}
 use Rattle.vs_pair.proofs.Others.{fit_between, fit_changed, fit_recovers, fit_kept}
@@ -215,9 +219,9 @@ fits_recovers paged disk text syncs fits =
 -- ---- the calls of the pair
 
 -- the committed pages are those of the text
-committed_document : (source : SwapPair) (disk : Disk) (tree : LineTree) (generation : ℕ) (head : Head) (document : Document) → IsPaged (shown_in source disk) tree document.text → head.empty ≡ (tree.committed.lines == 0)
-    → head.format ≡ format_number document.format → IsDocumentOf (sync_with source disk generation head) document
-committed_document source disk tree generation head document is empty format = record {
+committed_document : (shown : PageState) (tree : LineTree) (generation : ℕ) (head : Head) (document : Document) → IsPaged shown tree document.text → head.empty ≡ (tree.committed.lines == 0)
+    → head.format ≡ format_number document.format → IsDocumentOf (record { generation = generation; head = head; pages = shown.committed }) document
+committed_document shown tree generation head document is empty format = record {
   is_text = is.committed.is_text;
   depth = tree.committed.height;
   lines = is.committed.tree;
@@ -227,7 +231,7 @@ committed_document source disk tree generation head document is empty format = r
 
 pub document_synced : (paged : PagedText) (disk : Disk) (generation : ℕ) (head : Head) (document : Document) → IsPaged (shown_in paged.pair disk) paged.tree document.text → head.empty ≡ (paged.tree.committed.lines == 0)
     → head.format ≡ format_number document.format → IsDocumentOf (sync_with paged.pair disk generation head) document
-document_synced paged disk generation head document is empty format = committed_document paged.pair disk paged.tree generation head document is empty format
+document_synced paged disk generation head document is empty format = committed_document (shown_in paged.pair disk) paged.tree generation head document is empty format
 
 pub syncing_documents : (paged : PagedText) (head : Head) (format : Format) (old new : Disk) → head.empty ≡ (paged.tree.committed.lines == 0) → head.format ≡ format_number format
     → pair.Syncing (known_of paged.pair old) (sync_of paged.pair old head) old new → Syncing paged format old new
@@ -246,11 +250,12 @@ syncing_documents paged head format old new empty formatted syncing = record {
 same_pages : (old new : PageState) (tree after : LineTree) (text : Text) → after ≡ tree → new ≡ old → IsPaged old tree text → IsPaged new after text
 same_pages old new tree after text same shown is = subst (λ (s : PageState). IsPaged s after text) (sym shown) (subst (λ (t : LineTree). IsPaged old t text) (sym same) is)
 
-module _ (old new : PagedText) (head : Head) (dirty : Bool) (was now : Disk) (document : Document) (syncs : List Sync) (tree : new.tree ≡ old.tree) (shown : shown_in new.pair now ≡ shown_in old.pair was) (is_dirty : head.dirty ≡ dirty)
-    (empty : head.empty ≡ (old.tree.committed.lines == 0)) (format : head.format ≡ format_number document.format) (fits : Fits old was document.text syncs) where
+module _ (old new : PagedText) (head : Head) (dirty : Bool) (was now : Disk) (document : Document) (syncs : List Sync) (tree : new.tree ≡ old.tree) (shown : shown_in new.pair now ≡ shown_in old.pair was) (stored : IsStored new.pair now)
+    (is_dirty : head.dirty ≡ dirty) (empty : head.empty ≡ (old.tree.committed.lines == 0)) (format : head.format ≡ format_number document.format) (fits : Fits old was document.text syncs) where
   pub synced_fits : IsFit (known_of new.pair now) now (sync_of old.pair was head) [] (fits.newest ∷ fits.past) → Fits new now document.text (acknowledged_sync document dirty ∷ syncs)
   synced_fits fit = record {
     pages = same_pages (shown_in old.pair was) (shown_in new.pair now) old.tree new.tree document.text tree shown fits.pages;
+    stored = stored;
     newest = sync_of old.pair was head;
     later = [];
     past = fits.newest ∷ fits.past;
@@ -262,6 +267,7 @@ module _ (old new : PagedText) (head : Head) (dirty : Bool) (was now : Disk) (do
   pub failed_fits : IsFit (known_of new.pair now) now fits.newest (sync_of old.pair was head ∷ fits.later) fits.past → Fits new now document.text (begun document dirty ∷ syncs)
   failed_fits fit = record {
     pages = same_pages (shown_in old.pair was) (shown_in new.pair now) old.tree new.tree document.text tree shown fits.pages;
+    stored = stored;
     newest = fits.newest;
     later = sync_of old.pair was head ∷ fits.later;
     past = fits.past;
@@ -280,51 +286,62 @@ ending_documents paged old new ending = record {
 
 -- ---- the start
 
-module _ (source : SwapPair) (was : Disk) (tree : LineTree) (head : Head) (document : Document) (is : IsPaged (shown_in source was) tree document.text) (empty : head.empty ≡ (tree.committed.lines == 0)) (format : head.format ≡ format_number document.format) where
-  started_with : (generation : ℕ) → IsDocumentOf (sync_with source was generation head) document
-  started_with generation = committed_document source was tree generation head document is empty format
+module _ (source : SwapPair) (tree : LineTree) (head : Head) (document : Document) (is : IsPaged (state_of source.pages) tree document.text) (empty : head.empty ≡ (tree.committed.lines == 0)) (format : head.format ≡ format_number document.format) where
+  started_with : (generation : ℕ) → IsDocumentOf (sync_fresh source generation head) document
+  started_with generation = committed_document (state_of source.pages) tree generation head document is empty format
 
-  pub starting_document : (names : Names) → IsTrue (is_allowed names.file) → (new : Disk) → steps.Starting names (sync_with source was 1 head) (sync_with source was 2 head) was new → Starting names document was new
-  starting_document names allowed new starting = record {
+  pub starting_document : (names : Names) → IsTrue (is_allowed names.file) → (was new : Disk) → steps.Starting names (sync_fresh source 1 head) (sync_fresh source 2 head) was new → Starting names document was new
+  starting_document names allowed was new starting = record {
     spared = starting.spared;
-    safe = recovers_or_none names allowed (sync_with source was 1 head ∷ sync_with source was 2 head ∷ []) (sync_with source was 1 head ∷ []) (document ∷ []) are new starting.safe;
+    safe = recovers_or_none names allowed (sync_fresh source 1 head ∷ sync_fresh source 2 head ∷ []) (sync_fresh source 1 head ∷ []) (document ∷ []) are new starting.safe;
   }
     where
-      are : AreOf (sync_with source was 1 head ∷ sync_with source was 2 head ∷ []) (document ∷ [])
+      are : AreOf (sync_fresh source 1 head ∷ sync_fresh source 2 head ∷ []) (document ∷ [])
       are synced (inl one) = (document, inl refl, subst (λ (s : Synced). IsDocumentOf s document) (sym one) (started_with 1))
       are synced (inr (inl two)) = (document, inl refl, subst (λ (s : Synced). IsDocumentOf s document) (sym two) (started_with 2))
       are synced (inr (inr none)) = absurd none
 
-  pub started_fits : (paged : PagedText) (disk : Disk) → shown_in paged.pair disk ≡ shown_in source was → paged.tree ≡ tree → head.dirty ≡ false
-      → IsFit (known_of paged.pair disk) disk (sync_with source was 2 head) [] (sync_with source was 1 head ∷ []) → Fits paged disk document.text (acknowledged_sync document false ∷ [])
-  started_fits paged disk shown same clean fit = record {
-    pages = same_pages (shown_in source was) (shown_in paged.pair disk) tree paged.tree document.text same shown is;
-    newest = sync_with source was 2 head;
+  pub started_fits : (paged : PagedText) (disk : Disk) → shown_in paged.pair disk ≡ state_of source.pages → IsStored paged.pair disk → paged.tree ≡ tree → head.dirty ≡ false
+      → IsFit (known_of paged.pair disk) disk (sync_fresh source 2 head) [] (sync_fresh source 1 head ∷ []) → Fits paged disk document.text (acknowledged_sync document false ∷ [])
+  started_fits paged disk shown stored same clean fit = record {
+    pages = same_pages (state_of source.pages) (shown_in paged.pair disk) tree paged.tree document.text same shown is;
+    stored = stored;
+    newest = sync_fresh source 2 head;
     later = [];
-    past = sync_with source was 1 head ∷ [];
+    past = sync_fresh source 1 head ∷ [];
     fit = fit;
-    syncs_are = first_syncs (sync_with source was 1 head) (sync_with source was 2 head) document false (record { document = started_with 1; dirty = clean }) (record { document = started_with 2; dirty = clean });
+    syncs_are = first_syncs (sync_fresh source 1 head) (sync_fresh source 2 head) document false (record { document = started_with 1; dirty = clean }) (record { document = started_with 2; dirty = clean });
   }
 
 -- ---- other names
 
 pub fits_kept : (paged : PagedText) (old new : Disk) (text : Text) (syncs : List Sync) → SameAt (is_swap (names_of paged)) old new → Fits paged old text syncs → Fits paged new text syncs
-fits_kept paged old new text syncs same fits = record {
-  pages = fits.pages;
-  newest = fits.newest;
-  later = fits.later;
-  past = fits.past;
-  fit = fit_kept (known_of paged.pair old) old new fits.newest fits.later fits.past same fits.fit;
-  syncs_are = fits.syncs_are;
-}
+fits_kept paged old new text syncs same fits =
+    let files = paged.pair.files in
+    let pages = paged.pair.pages in
+    let away : away_of files old ≡ away_of files new = sym (away_same files old new same) in
+    record {
+      pages = subst (λ (m : Map). IsPaged (state_under m pages) paged.tree text) away fits.pages;
+      stored = record {
+        backed = subst (λ (m : Map). AreBacked m pages) away fits.stored.backed;
+        cached = subst (λ (m : Map). IsCacheOf (was_away paged.pair.pages) m paged.pair.cache) away fits.stored.cached;
+      };
+      newest = fits.newest;
+      later = fits.later;
+      past = fits.past;
+      fit = subst (λ (m : Map). IsFit (known_with files (held_with m pages)) new fits.newest fits.later fits.past) away
+          (fit_kept (known_of paged.pair old) old new fits.newest fits.later fits.past same fits.fit);
+      syncs_are = fits.syncs_are;
+    }
 
 -- ---- other pages
 
 -- pages with another text, where each commit that changed a page is known
 pub fits_changed : (old new : PagedText) (disk : Disk) (text after : Text) (syncs : List Sync) → new.pair.files ≡ old.pair.files
-    → KeepsHeld (held_in old.pair disk) (held_in new.pair disk) → IsPaged (shown_in new.pair disk) new.tree after → Fits old disk text syncs → Fits new disk after syncs
-fits_changed old new disk text after syncs files held pages fits = record {
+    → KeepsHeld (held_in old.pair disk) (held_in new.pair disk) → IsPaged (shown_in new.pair disk) new.tree after → IsStored new.pair disk → Fits old disk text syncs → Fits new disk after syncs
+fits_changed old new disk text after syncs files held pages stored fits = record {
   pages = pages;
+  stored = stored;
   newest = fits.newest;
   later = fits.later;
   past = fits.past;
@@ -345,20 +362,20 @@ module _ (source : SwapPair) (tree : LineTree) (value : Opening) (is : IsCommitt
   pub names_opened : source.files.names ≡ names_of_file value.name
   names_opened = source.files.named.others ∙ ap (λ (o : Opening). names_of_file o.name) same
 
-  module _ (was : Disk) (head : Head) (format : Format) (empty : head.empty ≡ (tree.committed.lines == 0)) (formatted : head.format ≡ format_number format) where
-    pub opened_starting : (new : Disk) → steps.Starting source.files.names (sync_with source was 1 head) (sync_with source was 2 head) was new
+  module _ (head : Head) (format : Format) (empty : head.empty ≡ (tree.committed.lines == 0)) (formatted : head.format ≡ format_number format) where
+    pub opened_starting : (was new : Disk) → steps.Starting source.files.names (sync_fresh source 1 head) (sync_fresh source 2 head) was new
         → Starting (names_of_file value.name) (opened_in format value) was new
-    opened_starting new starting =
+    opened_starting was new starting =
         let named : Starting source.files.names (opened_in format value) was new =
         subst (λ (o : Opening). Starting source.files.names (opened_in format o) was new) same
-        (starting_document source was tree head (opened_in format (value_of source tree)) (is_paged source.pages tree is) empty formatted source.files.names source.files.named.allowed new starting) in
+        (starting_document source tree head (opened_in format (value_of source tree)) (is_paged source.pages tree is) empty formatted source.files.names source.files.named.allowed was new starting) in
         subst (λ (n : Names). Starting n (opened_in format value) was new) names_opened named
 
-    pub opened_fits : (paged : PagedText) (disk : Disk) → shown_in paged.pair disk ≡ shown_in source was → paged.tree ≡ tree → head.dirty ≡ false
-        → IsFit (known_of paged.pair disk) disk (sync_with source was 2 head) [] (sync_with source was 1 head ∷ []) → Fits paged disk value.text (acknowledged_sync (opened_in format value) false ∷ [])
-    opened_fits paged disk shown one clean fit =
+    pub opened_fits : (paged : PagedText) (disk : Disk) → shown_in paged.pair disk ≡ state_of source.pages → IsStored paged.pair disk → paged.tree ≡ tree → head.dirty ≡ false
+        → IsFit (known_of paged.pair disk) disk (sync_fresh source 2 head) [] (sync_fresh source 1 head ∷ []) → Fits paged disk value.text (acknowledged_sync (opened_in format value) false ∷ [])
+    opened_fits paged disk shown stored one clean fit =
         subst (λ (o : Opening). Fits paged disk o.text (acknowledged_sync (opened_in format o) false ∷ [])) same
-        (started_fits source was tree head (opened_in format (value_of source tree)) (is_paged source.pages tree is) empty formatted paged disk shown one clean fit)
+        (started_fits source tree head (opened_in format (value_of source tree)) (is_paged source.pages tree is) empty formatted paged disk shown stored one clean fit)
 
   pub lines_opened : tree.present.lines ≡ length value.text
   lines_opened = sym (text_had (present_of source.pages) tree.present is.present_fits).lines ∙ ap (λ (o : Opening). length o.text) same

@@ -7,6 +7,7 @@ use Rattle.vs_disk.specs.Names.{SameAt}
 use Rattle.vs_text.specs.declared.format.Format.{Format}
 use Rattle.vs_text.specs.Documents.{Document}
 use Rattle.vs_pair.specs.Swap.{Synced}
+use Rattle.vs_pair.specs.Lent.{IsStored}
 use Rattle.vs_pair.specs.Pair.{IsFit, IsIn, IsDocumentOf, Unmoved, is_apart, is_foreign, known_of, shown_in}
 use Rattle.vs_safety.specs.Texts.{Text, Sync, IsNewestOf, IsSyncIn, Recovers, RecoversOrNone, recoverable}
 use Rattle.vs_paged.specs.Pages.{IsPaged}
@@ -31,9 +32,11 @@ pub record AreSyncs (newest : Synced) (later past : List Synced) (syncs : List S
   pub later_are : (synced : Synced) → IsIn synced later → (sync : Sync) × IsSyncIn sync begun_since × Writes synced sync
   pub past_are : (synced : Synced) → IsIn synced past → (sync : Sync) × IsSyncIn sync (last ∷ earlier) × Writes synced sync
 
--- The pages have this text, and the folder has the swap files that these syncs, the newest first, made.
+-- The pages have this text, those that are away stand in the file of the last acknowledged sync, and the folder has the swap files that
+-- these syncs, the newest first, made.
 pub record Fits (paged : PagedText) (disk : Disk) (text : Text) (syncs : List Sync) : Type 0 where
   pub pages : IsPaged (shown_in paged.pair disk) paged.tree text
+  pub stored : IsStored paged.pair disk
   pub newest : Synced
   pub later : List Synced
   pub past : List Synced

@@ -2,8 +2,8 @@
 ghost use Rattle.std.specs.Prelude.{◌≡◌, ◌≢◌, ◌++◌, ◌∷◌, [], false, true, IfOk, IsErr, IsTrue, OnErr, OnOk, length};
 ghost use Rattle.vs_faults.specs.Faults.{HasCause};
 ghost use Rattle.vs_host.specs.Names.{is_allowed, names_of_file};
-ghost use Rattle.vs_pages.specs.Maps.{first_pages};
-ghost use Rattle.vs_pages.specs.Memory.{present_of};
+ghost use Rattle.vs_pages.specs.Maps.{first_pages, no_pages};
+ghost use Rattle.vs_pages.specs.Memory.{present_of, AreBacked};
 ghost use Rattle.vs_disk.specs.Runs.{NoneFails};
 ghost use Rattle.vs_pair.specs.Acts.{Acts};
 ghost use Rattle.vs_pair.specs.Pair.{committed_in};
@@ -28,7 +28,7 @@ use vs_text::Format;
 use vs_tree::LineTree;
 
 /// A text that is read, piece by piece, into the pages of a pair, seen as the name of its file and the lines so far. It has made
-/// no file yet.
+/// no file yet, so all its pages are in memory.
 pub struct OpeningText {
     tree: LineTree,
     pair: SwapPair,
@@ -43,7 +43,8 @@ impl Drop for OpeningText {
 
 impl Model for OpeningText {
     ghost use Rattle.std.specs.Prelude.{◌≡◌};
-    ghost use Rattle.vs_pages.specs.Memory.{present_of};
+    ghost use Rattle.vs_pages.specs.Maps.{no_pages};
+    ghost use Rattle.vs_pages.specs.Memory.{present_of, AreBacked};
     ghost use Rattle.vs_tree.specs.TextIn.{text_in};
     ghost use Rattle.vs_paged.specs.Pages.{IsCommitted, Opening};
 
@@ -51,7 +52,7 @@ impl Model for OpeningText {
 
     ghost view = { λ s. record { name = s.pair.files.names.file; text = text_in (present_of s.pair.pages) s.tree.present } };
 
-    ghost invariant = { λ s. IsCommitted s.pair.pages s.tree × (s.pair.files.generation ≡ 0) };
+    ghost invariant = { λ s. IsCommitted s.pair.pages s.tree × AreBacked no_pages s.pair.pages × (s.pair.files.generation ≡ 0) };
 }
 
 // Pages in memory do not fail, so memory is all that can be missing.
@@ -70,6 +71,7 @@ fn commit_in(tree: &mut LineTree, pages: &mut MemPages)
     requires filled { IsFilledIn (present_of pages.old) tree.old.present }
     ensures text { text_in (present_of pages.new) tree.new.present ≡ text_in (present_of pages.old) tree.old.present }
     ensures committed { IsCommitted pages.new tree.new }
+    ensures here { AreBacked no_pages pages.old → AreBacked no_pages pages.new }
 {
     pages.commit();
     tree.commit();
@@ -87,6 +89,7 @@ fn push_in(
     ensures ok { OnOk result (text_in (present_of pages.new) tree.new.present ≡ text_in (present_of pages.old) tree.old.present ++ lines.now) }
     ensures err { OnErr result (text_in (present_of pages.new) tree.new.present ≡ text_in (present_of pages.old) tree.old.present) }
     ensures committed { IsCommitted pages.new tree.new }
+    ensures here { AreBacked no_pages pages.old → AreBacked no_pages pages.new }
 {
     match tree.push_lines(alloc, pages, lines) {
         Ok(()) => {
@@ -102,6 +105,7 @@ fn empty_in(alloc: Global, pages: &mut MemPages) -> Result<LineTree, AllocError>
     requires { present_of pages.old ≡ first_pages }
     ensures text { IfOk result (λ tree. text_in (present_of pages.new) tree.present ≡ []) }
     ensures committed { IfOk result (λ tree. IsCommitted pages.new tree) }
+    ensures here { AreBacked no_pages pages.old → AreBacked no_pages pages.new }
 {
     let mut tree = match LineTree::new(alloc, pages) {
         Ok(tree) => tree,
@@ -138,7 +142,8 @@ impl OpeningText {
         push_in(alloc, &mut self.tree, &mut self.pair.pages, lines)
     }
 
-    /// Makes both swap files of the text in this format, which has no changes. It takes no memory.
+    /// Makes both swap files of the text in this format, which has no changes. Then the pages leave memory but for a cache. It needs no
+    /// memory.
     pub fn start<F: Folder>(self, host: &mut F, format: Format) -> Result<PagedText, Failed>
         requires fresh { IsTrue F.tells.folder → IsFresh (names_of_file self.name) (F.scene host.old).folder }
         ensures acts { Acts F.tells (Starting (names_of_file self.name) (record { text = self.text; format = format })) (F.scene host.old) (F.scene host.new) }

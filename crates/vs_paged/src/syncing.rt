@@ -1,9 +1,10 @@
 // The syncs of a text, and the end of its swap files.
 ghost use Rattle.std.specs.Prelude.{◌≡◌, ◌+◌, ◌<◌, ◌^◌, ◌∷◌, ℕ, List, IsErr, IsTrue, OnErr, OnOk, is_ok};
 ghost use Rattle.vs_faults.specs.Faults.{HasCause};
-ghost use Rattle.vs_disk.specs.Runs.{CallsAtMost, NoneFails};
-ghost use Rattle.vs_pair.specs.Acts.{Acts};
-ghost use Rattle.vs_pair.specs.Pair.{Rises};
+ghost use Rattle.vs_disk.specs.Runs.{NoneFails};
+ghost use Rattle.vs_pages.specs.Memory.{commits_of};
+ghost use Rattle.vs_pair.specs.Acts.{Acts, WorksAtMost};
+ghost use Rattle.vs_pair.specs.Pair.{Rises, shown_in};
 ghost use Rattle.vs_pair.specs.Stale.{IsBehind};
 ghost use Rattle.vs_pair.specs.Steps.{IsAbsent};
 ghost use Rattle.vs_safety.specs.Texts.{Text, Sync, begun};
@@ -24,7 +25,7 @@ impl PagedText {
     }
 
     /// Writes the committed text in this format into the swap file that does not have the last acknowledged sync. `dirty` says
-    /// whether it has changes that are not in the edited file. It takes no memory.
+    /// whether it has changes that are not in the edited file. Then the pages leave memory but for a cache. It needs no memory.
     pub fn sync<F: Folder>(
         &mut self,
         host: &mut F,
@@ -43,12 +44,16 @@ impl PagedText {
         ensures rises { OnOk result (IsTrue F.tells.folder → Rises (names_of self.old) (F.scene host.old).folder (F.scene host.new).folder) }
         ensures stays { OnErr result (IsTrue F.tells.folder → Rises (names_of self.old) (F.scene host.old).folder (F.scene host.new).folder → ⊥) }
 
-        // It makes at most six calls and one for each number by which its file is behind the committed pages. After its Ok that file has all
-        // that was committed, and the other one is the next; after an error nothing is known of its file.
+        // It makes at most six calls and one for each number by which its file is behind the committed pages, beside at most as many that read
+        // a page of the other file. After its Ok that file has all that was committed, and the other one is the next; after an error nothing is
+        // known of its file.
         ensures behind { (most : ℕ) → IsBehind self.old.pair.pages self.old.pair.files.older_has most
-            → CallsAtMost F.tells (F.scene host.old) (F.scene host.new) (6 + most) }
+            → WorksAtMost F.tells (F.scene host.old) (F.scene host.new) (6 + most) most }
         ensures turns { TurnsFiles (is_ok result) self.old.pair self.new.pair }
-        ensures pages { self.new.pair.pages ≡ self.old.pair.pages }
+
+        // The pages are as they were, wherever they are.
+        ensures shown { IsTrue F.tells.folder → shown_in self.new.pair (F.scene host.new).folder ≡ shown_in self.old.pair (F.scene host.old).folder }
+        ensures commits { commits_of self.new.pair.pages ≡ commits_of self.old.pair.pages }
         ensures tree { self.new.tree ≡ self.old.tree }
         ensures names { names_of self.new ≡ names_of self.old }
         ensures generation { self.new.pair.files.generation ≡ self.old.pair.files.generation + 1 }

@@ -1,3 +1,4 @@
+pub mod CellLemmas
 pub mod Commits
 pub mod Ends
 pub mod Lending
@@ -7,6 +8,7 @@ pub mod Pasts
 pub mod Patches
 pub mod Places
 pub mod Runs
+pub mod Sights
 pub mod Steps
 pub mod TableLemmas
 pub mod Undos

@@ -1,5 +1,5 @@
 -- The commit that last changed each number.
-use Rattle.std.proofs.Common.{◌≡◌, ℕ, ◌+◌, ◌-◌, ◌<◌, ◌≤◌, ◌⊎◌, List, [], ◌∷◌, ◌++◌, length, reverse, get_or, set, Option, IsSome, refl, sym, ap, ◌∙◌, subst, inl, inr, arith}
+use Rattle.std.proofs.Common.{◌≡◌, ℕ, ◌+◌, ◌-◌, ◌<◌, ◌≤◌, ◌⊎◌, List, [], ◌∷◌, ◌++◌, length, reverse, get_or, set, IsSome, IsTrue, refl, sym, ap, ◌∙◌, subst, inl, inr, arith}
 use Rattle.std.specs.List.{All}
 use Rattle.std.specs.Prelude.{nat_eq, if◌then◌else◌}
 use Rattle.std.proofs.lemmas.Bool.{cases_eq, cases_lt}
@@ -8,16 +8,19 @@ use Rattle.std.proofs.lemmas.Grind.{common_steps, get_or-set_at}
 use Rattle.std.proofs.lemmas.List.{get_or-set_other, get_or-reverse}
 use Rattle.std.proofs.lemmas.List.Elements.{All-cons, All-nil}
 use mathlib.Core.Path.{fun_ext}
-use Rattle.vs_pages.specs.Maps.{Map, numbers, one, span, total, patched}
-use Rattle.vs_pages.specs.Table.{last_in, seen, shown, noted}
+use Rattle.vs_pages.specs.Cells.{Cells, is_away, rewritten}
+use Rattle.vs_pages.specs.Maps.{numbers, one, span, total}
+use Rattle.vs_pages.specs.Table.{last_in, noted}
 use Rattle.vs_pages.specs.History.{end_of, first_of, numbers_in, numbers_of, undone, CanUndoAll}
-use Rattle.vs_pages.specs.Memory.{changes_of, committed_of, kept_of, present_of, KeepsSince}
+use Rattle.vs_pages.specs.MemoryLaws.{away_first}
+use Rattle.vs_pages.specs.Memory.{changes_of, first_kept_of, kept_of, KeepsSince}
 use Rattle.vs_pages.specs.declared.change.Change.{Change}
 use Rattle.vs_pages.specs.declared.change.Change.TheVariants as kinds
 use Rattle.vs_pages.specs.declared.memory.MemPages.{MemPages}
-use Rattle.vs_pages.proofs.MapsLemmas.{one-other, one-zero, put-other, span-add, span-within, total-append, total_numbers}
-use Rattle.vs_pages.proofs.Places.{put_places-other, shown_some}
-use Rattle.vs_pages.proofs.Ends.{none_if, now_has}
+use Rattle.vs_pages.proofs.CellLemmas.{cell-other, gone_if}
+use Rattle.vs_pages.proofs.MapsLemmas.{one-other, one-zero, span-add, span-within, total-append, total_numbers}
+use Rattle.vs_pages.proofs.Places.{put_places-other}
+use Rattle.vs_pages.proofs.Ends.{now_has}
 use Rattle.vs_pages.proofs.Undos.{numbers_append, total_reversed}
 
 -- how often a number is in a list
@@ -75,7 +78,7 @@ pub noted_reversed : (log : List Change) (commit : ℕ) (last : ℕ → ℕ) →
 noted_reversed log commit last = noted_as (numbers_in log) (numbers_in (reverse log)) commit last (λ k. sym (total_reversed log k))
 
 -- each change ends within the table
-can_each : (m : Map) (n most : ℕ) (cs : List Change) → n ≤ most → CanUndoAll m n cs → All (λ c. end_of c ≤ most) cs
+can_each : (m : Cells) (n most : ℕ) (cs : List Change) → n ≤ most → CanUndoAll m n cs → All (λ c. end_of c ≤ most) cs
 can_each m n most [] le can = All-nil (λ c. end_of c ≤ most)
 can_each m n most (kinds.Run run ∷ cs) le can =
     All-cons (λ c. end_of c ≤ most) (kinds.Run run) cs (omega (arith, can.0.within, le)) (can_each (undone (kinds.Run run) m) run.places most cs (omega (arith, can.0.fewer, le)) can.1)
@@ -91,7 +94,7 @@ all_reversed P xs all = λ i d lt.
     let back : length xs - 1 - at ≡ i = omega (arith, lt) in
     subst P (get_or-reverse xs at d (omega (arith, lt)) ∙ ap (λ k. get_or xs k d) back) (all at d (omega (arith, lt, reversed_size xs)))
 
-pub ends_within : (m : Map) (n most : ℕ) (log : List Change) → n ≤ most → CanUndoAll m n (reverse log) → All (λ c. end_of c ≤ most) log
+pub ends_within : (m : Cells) (n most : ℕ) (log : List Change) → n ≤ most → CanUndoAll m n (reverse log) → All (λ c. end_of c ≤ most) log
 ends_within m n most log le can = all_reversed (λ c. end_of c ≤ most) log (can_each m n most (reverse log) le can)
 
 -- ---- what was not worked stays
@@ -102,27 +105,28 @@ out_of at n k none = elim (cases_lt k at) [
   | inr le ↦ elim (cases_lt k (at + n)) [ inl inside ↦ absurd (omega (arith, none, span-within at n k le inside)) | inr past ↦ inr past ]
 ]
 
-undone_other : (m : Map) (c : Change) (k : ℕ) → times k (numbers_of c) ≡ 0 → undone c m k ≡ m k
+undone_other : (m : Cells) (c : Change) (k : ℕ) → times k (numbers_of c) ≡ 0 → undone c m k ≡ m k
 undone_other m (kinds.Run run) k none = put_places-other m run.at run.was.items k (out_of run.at (length run.was.items) k (sym (total_numbers run.at (length run.was.items) k) ∙ none))
-undone_other m (kinds.Patch patch) k none = put-other m patch.at (patched (m patch.at) patch.from patch.was.items) k (one-zero patch.at k (omega (arith, none)))
+undone_other m (kinds.Patch patch) k none = cell-other m patch.at (rewritten (m patch.at) patch.from patch.was.items) k (one-zero patch.at k (omega (arith, none)))
 
-pub first_other : (m : Map) (cs : List Change) (k : ℕ) → times k (numbers_in cs) ≡ 0 → first_of m cs k ≡ m k
+pub first_other : (m : Cells) (cs : List Change) (k : ℕ) → times k (numbers_in cs) ≡ 0 → first_of m cs k ≡ m k
 first_other m [] k none = refl
 first_other m (c ∷ cs) k none =
     let both : times k (numbers_of c) + times k (numbers_in cs) ≡ 0 = sym (total-append (λ at. one at k) (numbers_of c) (numbers_in cs)) ∙ none in
     first_other (undone c m) cs k (omega (arith, both)) ∙ undone_other m c k (omega (arith, both))
 
 -- A commit leaves what was so since one before it.
-pub commit_keeps : (old new : MemPages) → old.commits ≤ new.commits → kept_of new ≡ kept_of old → committed_of new ≡ present_of new → last_in new.last.items ≡ noted (numbers_in (changes_of old)) old.commits (last_in old.last.items) → KeepsSince old new
+pub commit_keeps : (old new : MemPages) → old.commits ≤ new.commits → kept_of new ≡ kept_of old → first_kept_of new ≡ kept_of new → last_in new.last.items ≡ noted (numbers_in (changes_of old)) old.commits (last_in old.last.items) → KeepsSince old new
 commit_keeps old new later kept committed last = record {
   later = later;
-  since = λ commit map le since k lt.
+  each = λ k.
       let now : last_in new.last.items k ≡ noted (numbers_in (changes_of old)) old.commits (last_in old.last.items) k = ap (λ (f : ℕ → ℕ). f k) last in
       elim (cases_eq (times k (numbers_in (changes_of old))) 0) [
-        | inr some ↦ absurd (omega (arith, lt, le, now, noted_hit (numbers_in (changes_of old)) old.commits (last_in old.last.items) k (omega (arith, some))))
-        | inl none ↦
-            ap (λ (m : Map). m k) committed ∙ ap (λ (m : Map). seen m k) kept ∙ ap (λ (o : Option (List ℕ)). shown o) (sym (first_other (kept_of old) (changes_of old) k none))
-            ∙ since k (omega (arith, lt, now, noted_miss (numbers_in (changes_of old)) old.commits (last_in old.last.items) k none))
+        | inr some ↦ inl (omega (arith, now, noted_hit (numbers_in (changes_of old)) old.commits (last_in old.last.items) k (omega (arith, some))))
+        | inl none ↦ inr (
+          omega (arith, now, noted_miss (numbers_in (changes_of old)) old.commits (last_in old.last.items) k none),
+          ap (λ (m : Cells). m k) committed ∙ ap (λ (m : Cells). m k) kept ∙ sym (first_other (kept_of old) (changes_of old) k none),
+        )
       ];
   reach = λ commit end le reach k j from upto there.
       let now : last_in new.last.items k ≡ noted (numbers_in (changes_of old)) old.commits (last_in old.last.items) k = ap (λ (f : ℕ → ℕ). f k) last in
@@ -133,11 +137,12 @@ commit_keeps old new later kept committed last = record {
             elim (cases_lt (last_in old.last.items k) commit) [
               | inr ge ↦ omega (arith, ge, before)
               | inl less ↦
-                  let page : IsSome (kept_of old j) = sym (shown_some (kept_of old j)) ∙ subst (λ (m : Map). IsSome (seen m j)) kept (subst (λ (m : Map). IsSome (m j)) committed there) in
+                  let page : IsSome (kept_of old j) = subst (λ (m : Cells). IsSome (m j)) kept (subst (λ (m : Cells). IsSome (m j)) committed there) in
                   absurd (now_has (kept_of old) (changes_of old) old.no_gaps k j upto page none (λ i le_i.
-                  none_if (first_of (kept_of old) (changes_of old) i) (λ is. omega (arith, less, reach k i from le_i (shown_some (first_of (kept_of old) (changes_of old) i) ∙ is)))))
+                  gone_if (first_kept_of old i) (λ is. omega (arith, less, reach k i from le_i is))))
             ]
       ];
+  backed = λ away backed k gone. backed k (away_first old k (subst (λ (m : Cells). IsTrue (is_away (m k))) (committed ∙ kept) gone));
 }
 
 pub numbers_set : (ns : List ℕ) (at n : ℕ) → length (set ns at n) ≡ length ns

@@ -1,4 +1,5 @@
 pub mod Calls
+pub mod Cells
 pub mod History
 pub mod HistoryLaws
 pub mod Maps

@@ -1,51 +1,98 @@
 -- Laws of pages in memory: each page has its size and a number below the bound, and what was so since a commit stays so.
-use Rattle.std.specs.Prelude.{◌≡◌, ℕ, ◌^◌, ◌≤◌, List, length, Option, None, slice_index_or}
-use Rattle.std.proofs.Common.{ap, arith, inl, inr}
+use Rattle.std.specs.Prelude.{◌≡◌, ℕ, ◌*◌, ◌^◌, ◌≤◌, false, List, length, Option, None, Some, IsSomeAnd, IsTrue, is_some, slice_index_or}
+use Rattle.std.proofs.Common.{ap, arith, inl, inr, refl, sym, ◌∙◌}
 use Rattle.std.proofs.lemmas.Bool.{cases_lt}
 use Rattle.std.proofs.lemmas.Grind.{common_steps}
-use Rattle.vs_pages.specs.Maps.{ArePages, Map}
-use Rattle.vs_pages.specs.Table.{map_of, seen, shown}
-use Rattle.vs_pages.specs.History.{first_of}
-use Rattle.vs_pages.specs.HistoryLaws.{IsWhole, place_whole, first_past, first_whole}
-use Rattle.vs_pages.specs.Memory.{present_of, committed_of, commits_of, kept_of, changes_of, HasReach, KeepsSince}
+use Rattle.std.proofs.lemmas.List.{length-replicate}
+use Rattle.vs_pages.specs.Cells.{Blank, Away, Kept, Cell, Cells, is_away, seen, shown}
+use Rattle.vs_pages.specs.Maps.{ArePages, Map, no_pages, zeros}
+use Rattle.vs_pages.specs.Table.{cells_of}
+use Rattle.vs_pages.specs.HistoryLaws.{IsWhole, place_whole, first_away, first_past, first_whole}
+use Rattle.vs_pages.specs.Memory.{present_of, present_under, committed_of, committed_under, first_kept_of, kept_of, changes_of, AreBacked, KeepsSince}
 use Rattle.vs_pages.specs.declared.page.Page.{Page}
 use Rattle.vs_pages.specs.declared.memory.MemPages.{MemPages}
 
 pub keeps_none : (pages : MemPages) → KeepsSince pages pages
-keeps_none pages = record { later = omega arith; since = λ commit map le since. since; reach = λ commit end le reach. reach }
-
--- where no page is committed from this number on
-pub reach_begins : (pages : MemPages) (end : ℕ) → ((k : ℕ) → end ≤ k → committed_of pages k ≡ None) → HasReach pages (commits_of pages).count end
-reach_begins pages end none k j from upto there = absurd (let gone = none j (omega (arith, from, upto)) in cc)
+keeps_none pages = record { later = omega arith; each = λ k. inr (omega arith, refl); reach = λ commit end le reach. reach; backed = λ away backed. backed }
 
 pub keeps_then : (a b c : MemPages) → KeepsSince a b → KeepsSince b c → KeepsSince a c
 keeps_then a b c first second = record {
   later = omega (arith, first.later, second.later);
-  since = λ commit map le since. second.since commit map (omega (arith, le, first.later)) (first.since commit map le since);
-  reach = λ commit end le reach. second.reach commit end (omega (arith, le, first.later)) (first.reach commit end le reach);
-}
-
-map_end : (places : List (Option Page)) (k : ℕ) → length places ≤ k → map_of places k ≡ None
-map_end places k le = grind (arith, common_steps)
-
-pages_below : (kept : Map) (n : ℕ) → n ≤ 2 ^ 40 → ((k : ℕ) → n ≤ k → kept k ≡ None) → ((k : ℕ) → IsWhole (kept k)) → ArePages (seen kept)
-pages_below kept n bound none whole = record {
-  sizes = λ k bytes is. whole k bytes is;
-  below = λ k bytes is. elim (cases_lt k n) [
-    | inl lt ↦ omega (arith, lt, bound)
-    | inr past ↦ let gone : seen kept k ≡ None = ap (λ (o : Option (List ℕ)). shown o) (none k past) in absurd (cc)
+  each = λ k. elim (second.each k) [
+    | inl changed ↦ inl (omega (arith, changed, first.later))
+    | inr same ↦ elim (first.each k) [
+      | inl changed ↦ inl (omega (arith, changed, same.0))
+      | inr both ↦ inr (omega (arith, both.0, same.0), same.1 ∙ both.1)
+    ]
   ];
+  reach = λ commit end le reach. second.reach commit end (omega (arith, le, first.later)) (first.reach commit end le reach);
+  backed = λ away backed. second.backed away (first.backed away backed);
 }
+
+cells_end : (places : List (Option Page)) (k : ℕ) → length places ≤ k → is_some (cells_of places k) ≡ false
+cells_end places k le = grind (arith, common_steps)
+
+length_zeros : (n : ℕ) → length (zeros n) ≡ 4096 * n
+unfolding zeros
+length_zeros n = length-replicate (4096 * n) 0
+
+-- The page that stands in the place of one that is away has its size.
+abbrev IsBackedAt : Option (List ℕ) → Option Cell → Type 0
+IsBackedAt away cell = IsTrue (is_away cell) → (page : List ℕ) → away ≡ Some page → length page ≡ 4096
+
+shown_size : (away : Option (List ℕ)) (cell : Option Cell) (page : List ℕ) → IsWhole cell → IsBackedAt away cell → shown away cell ≡ Some page → length page ≡ 4096
+shown_size away None page whole backed is = absurd (cc)
+shown_size away (Some Blank) page whole backed is = let same : zeros 1 ≡ page = cc in omega (arith, ap (λ (b : List ℕ). length b) same, length_zeros 1)
+shown_size away (Some Away) page whole backed is = backed refl page is
+shown_size away (Some (Kept bytes)) page whole backed is = let same : bytes ≡ page = cc in omega (arith, ap (λ (b : List ℕ). length b) same, whole)
+
+shown_there : (away : Option (List ℕ)) (cell : Option Cell) (page : List ℕ) → is_some cell ≡ false → shown away cell ≡ Some page → ⊥
+shown_there away None page none is = absurd (cc)
+shown_there away (Some cell) page none is = absurd (cc)
+
+pages_below : (away : Map) (kept : Cells) (n : ℕ) → n ≤ 2 ^ 40 → ((k : ℕ) → n ≤ k → is_some (kept k) ≡ false) → ((k : ℕ) → IsWhole (kept k)) → ((k : ℕ) → IsBackedAt (away k) (kept k))
+    → ArePages (seen away kept)
+pages_below away kept n bound none whole backed = record {
+  sizes = λ k page is. shown_size (away k) (kept k) page (whole k) (backed k) is;
+  below = λ k page is. elim (cases_lt k n) [ inl lt ↦ omega (arith, lt, bound) | inr past ↦ absurd (shown_there (away k) (kept k) page (none k past) is) ];
+}
+
+size_of : (away : Option (List ℕ)) (page : List ℕ) → IsSomeAnd away (λ page. length page ≡ 4096) → away ≡ Some page → length page ≡ 4096
+size_of None page some is = absurd some
+size_of (Some bytes) page some is = let same : bytes ≡ page = cc in ap (λ (b : List ℕ). length b) (sym same) ∙ some
+
+-- A page is away only where it was committed so.
+pub away_first : (pages : MemPages) (k : ℕ) → IsTrue (is_away (kept_of pages k)) → IsTrue (is_away (first_kept_of pages k))
+away_first pages k away = first_away (kept_of pages) (length pages.table.places.items) (changes_of pages) k pages.undo away
+
+first_each : (pages : MemPages) (k : ℕ) → IsWhole (first_kept_of pages k)
+first_each pages k =
+    first_whole (kept_of pages) (length pages.table.places.items) (changes_of pages) k pages.undo (place_whole (slice_index_or pages.table.places.items k None))
+
+pub are_present_under : (away : Map) (pages : MemPages) → AreBacked away pages → ArePages (present_under away pages)
+are_present_under away pages backed =
+    let places = pages.table.places.items in
+    pages_below away (kept_of pages) (length places) pages.table.bound (cells_end places) (λ k. place_whole (slice_index_or places k None))
+    (λ k gone page is. size_of (away k) page (backed k (away_first pages k gone)).1 is)
+
+pub are_committed_under : (away : Map) (pages : MemPages) → AreBacked away pages → ArePages (committed_under away pages)
+are_committed_under away pages backed =
+    let places = pages.table.places.items in
+    pages_below away (first_kept_of pages) (length places) pages.table.bound
+    (first_past (kept_of pages) (length places) (changes_of pages) pages.undo (cells_end places))
+    (first_each pages) (λ k gone page is. size_of (away k) page (backed k gone).1 is)
+
+none_size : (page : List ℕ) → no_pages 0 ≡ Some page → length page ≡ 4096
+none_size page is = absurd (cc)
 
 pub are_present : (pages : MemPages) → ArePages (present_of pages)
 are_present pages =
     let places = pages.table.places.items in
-    pages_below (kept_of pages) (length places) pages.table.bound (map_end places) (λ k. place_whole (slice_index_or places k None))
+    pages_below no_pages (kept_of pages) (length places) pages.table.bound (cells_end places) (λ k. place_whole (slice_index_or places k None)) (λ k gone page is. none_size page is)
 
 pub are_committed : (pages : MemPages) → ArePages (committed_of pages)
 are_committed pages =
     let places = pages.table.places.items in
-    let kept = kept_of pages in
-    pages_below (first_of kept (changes_of pages)) (length places) pages.table.bound
-    (first_past kept (length places) (changes_of pages) pages.undo (map_end places))
-    (λ k. first_whole kept (length places) (changes_of pages) k pages.undo (place_whole (slice_index_or places k None)))
+    pages_below no_pages (first_kept_of pages) (length places) pages.table.bound
+    (first_past (kept_of pages) (length places) (changes_of pages) pages.undo (cells_end places))
+    (first_each pages) (λ k gone page is. none_size page is)

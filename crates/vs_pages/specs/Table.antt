@@ -1,41 +1,50 @@
 -- A table of pages by number.
-use Rattle.std.specs.Prelude.{◌≡◌, ℕ, List, [], ◌∷◌, Option, Some, None, Bool, if◌then◌else◌, nat_eq, slice_index_or}
-use Rattle.vs_pages.specs.Maps.{Map, one, total, zeros}
+use Rattle.std.specs.Prelude.{◌≡◌, ℕ, List, Option, Some, None, if◌then◌else◌, nat_eq, slice_index_or}
+use Rattle.vs_pages.specs.Cells.{Blank, Away, Kept, Cell, Cells, shown}
+use Rattle.vs_pages.specs.Maps.{one, total}
 use Rattle.vs_pages.specs.declared.page.Page.{Page}
-use Rattle.vs_pages.specs.declared.page.Page.TheVariants.{Zeros, Written}
+use Rattle.vs_pages.specs.declared.page.Page.TheVariants as pages
+use Rattle.vs_pages.specs.declared.presence.Presence.{Presence}
+use Rattle.vs_pages.specs.declared.presence.Presence.TheVariants as presence
 
--- the bytes that are kept at a place of the table; none of them where it has a page of zeros that was not written
-abbrev pub bytes_of : Option Page → Option (List ℕ)
-bytes_of None = None
-bytes_of (Some Zeros) = Some []
-bytes_of (Some (Written buffer)) = Some buffer.bytes.items
+-- what a place of the table keeps
+abbrev pub cell_of : Option Page → Option Cell
+cell_of None = None
+cell_of (Some pages.Zeros) = Some Blank
+cell_of (Some pages.Away) = Some Away
+cell_of (Some (pages.Written buffer)) = Some (Kept buffer.bytes.items)
 
--- the page whose bytes are kept so
-abbrev pub shown : Option (List ℕ) → Option (List ℕ)
-shown None = None
-shown (Some []) = Some (zeros 1)
-shown (Some (x ∷ xs)) = Some (x ∷ xs)
+-- what a table keeps, whose places are numbered from 0
+abbrev pub cells_of : List (Option Page) → Cells
+cells_of places = λ k. cell_of (slice_index_or places k None)
 
--- the bytes that a table keeps, whose places are numbered from 0
-abbrev pub map_of : List (Option Page) → Map
-map_of places = λ k. bytes_of (slice_index_or places k None)
+-- 1 at a place with a page that is in memory, else 0
+abbrev pub here_count : Option Page → ℕ
+here_count None = 0
+here_count (Some pages.Zeros) = 1
+here_count (Some pages.Away) = 0
+here_count (Some (pages.Written buffer)) = 1
 
--- the pages whose bytes are kept so
-abbrev pub seen : Map → Map
-seen map = λ k. shown (map k)
+-- 1 at a place with a page that is away, else 0
+abbrev pub away_count : Option Page → ℕ
+away_count None = 0
+away_count (Some pages.Zeros) = 0
+away_count (Some pages.Away) = 1
+away_count (Some (pages.Written buffer)) = 0
 
--- 1 at a place with a page, else 0
-abbrev pub page_count : Option Page → ℕ
-page_count None = 0
-page_count (Some page) = 1
+-- how many places of a table have a page that is in memory
+abbrev pub here_in : List (Option Page) → ℕ
+here_in places = total here_count places
 
--- how many places of a table have a page
-abbrev pub pages_in : List (Option Page) → ℕ
-pages_in places = total page_count places
+-- how many places of a table have a page that is away
+abbrev pub away_in : List (Option Page) → ℕ
+away_in places = total away_count places
 
--- The place has a page with these bytes, or no page.
-abbrev pub IsPlace : Bool → List ℕ → Option (List ℕ) → Type 0
-IsPlace there bytes kept = shown kept ≡ (if there then Some bytes else None)
+-- The place has no page, a page with these bytes, or a page that is away.
+abbrev pub IsPlace : Presence → List ℕ → Option Cell → Type 0
+IsPlace presence.Missing bytes cell = cell ≡ None
+IsPlace presence.Here bytes cell = shown None cell ≡ Some bytes
+IsPlace presence.Away bytes cell = cell ≡ Some Away
 
 -- the commits of which the last one changed each place: 0 past the places that there were so far
 abbrev pub last_in : List ℕ → ℕ → ℕ

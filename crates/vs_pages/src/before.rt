@@ -1,18 +1,19 @@
 // What a place had before changes.
 ghost use Rattle.std.specs.Prelude.{◌≡◌, ◌≤◌, ◌+◌, ℕ, length, nat_eq, if◌then◌else◌};
 ghost use Rattle.vs_bytes.specs.Fields.{with_field};
-ghost use Rattle.vs_pages.specs.Maps.{Map};
+ghost use Rattle.vs_pages.specs.Cells.{Cells};
 ghost use Rattle.vs_pages.specs.Table.{IsPlace};
 ghost use Rattle.vs_pages.specs.History.{CanUndo, put_places, undone};
 
+use crate::Presence;
 use crate::change::{Change, Patch, Run};
 use crate::page::copy_place;
 
 // Makes what a place has what it had before a run.
-fn undo_run_at(run: &Run, at: u64, there: bool, into: &mut [u8]) -> bool
+fn undo_run_at(run: &Run, at: u64, there: Presence, into: &mut [u8]) -> Presence
     requires { length into.old ≡ 4096 }
     ensures size { length into.new ≡ 4096 }
-    ensures place { (m : Map) → IsPlace there into.old (m at) → IsPlace result into.new (put_places m run.now.at run.now.was.items at) }
+    ensures place { (m : Cells) → IsPlace there into.old (m at) → IsPlace result into.new (put_places m run.now.at run.now.was.items at) }
 {
     if at < run.at || at - run.at >= run.was.len() as u64 {
         return there;
@@ -33,11 +34,11 @@ fn undo_patch_at(patch: &Patch, at: u64, into: &mut [u8])
 }
 
 // Makes what a place has what it had before a change.
-pub fn undo_at(change: &Change, at: u64, there: bool, into: &mut [u8]) -> bool
+pub fn undo_at(change: &Change, at: u64, there: Presence, into: &mut [u8]) -> Presence
     requires size { length into.old ≡ 4096 }
-    requires can { (m : Map) × ((n : ℕ) × CanUndo m n change.now) }
+    requires can { (m : Cells) × ((n : ℕ) × CanUndo m n change.now) }
     ensures size { length into.new ≡ 4096 }
-    ensures place { (m : Map) (n : ℕ) → CanUndo m n change.now → IsPlace there into.old (m at) → IsPlace result into.new (undone change.now m at) }
+    ensures place { (m : Cells) (n : ℕ) → CanUndo m n change.now → IsPlace there into.old (m at) → IsPlace result into.new (undone change.now m at) }
 {
     match change {
         Change::Run(run) => undo_run_at(run, at, there, into),

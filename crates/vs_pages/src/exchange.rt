@@ -1,7 +1,7 @@
 // Pages that change places with those of a table.
-ghost use Rattle.std.specs.Prelude.{◌≡◌, ◌+◌, ◌*◌, ◌<◌, ◌≤◌, [], ◌∷◌, ℕ, All, None, Some, IfOk, length, take, drop, slice_index_or, if◌then◌else◌};
-ghost use Rattle.vs_pages.specs.Maps.{put};
-ghost use Rattle.vs_pages.specs.Table.{bytes_of, map_of};
+ghost use Rattle.std.specs.Prelude.{◌≡◌, ◌+◌, ◌*◌, ◌<◌, ◌≤◌, [], ◌∷◌, ℕ, All, None, Some, IfOk, false, length, take, drop, slice_index_or, if◌then◌else◌};
+ghost use Rattle.vs_pages.specs.Cells.{Blank, Kept, is_away, put_cell};
+ghost use Rattle.vs_pages.specs.Table.{cell_of, cells_of};
 ghost use Rattle.vs_pages.specs.History.{put_places};
 
 use crate::PAGE_SIZE;
@@ -14,8 +14,8 @@ use std::mem;
 // Exchanges the page of a place and another.
 fn exchange_one(table: &mut Table, at: u64, page: &mut Option<Page>)
     requires { at < length table.old.places.items }
-    ensures put { map_of table.new.places.items ≡ put (map_of table.old.places.items) at (bytes_of page.old) }
-    ensures was { bytes_of page.new ≡ map_of table.old.places.items at }
+    ensures put { cells_of table.new.places.items ≡ put_cell (cells_of table.old.places.items) at (cell_of page.old) }
+    ensures was { cell_of page.new ≡ cells_of table.old.places.items at }
     ensures places { length table.new.places.items ≡ length table.old.places.items }
 {
     let new = mem::replace(page, None);
@@ -25,8 +25,8 @@ fn exchange_one(table: &mut Table, at: u64, page: &mut Option<Page>)
 // Exchanges the pages of neighbouring places and of a list.
 pub fn exchange(table: &mut Table, at: u64, pages: &mut Vec<Option<Page>>)
     requires within { at + length pages.old.items ≤ length table.old.places.items }
-    ensures put { map_of table.new.places.items ≡ put_places (map_of table.old.places.items) at pages.old.items }
-    ensures was { map_of table.old.places.items ≡ put_places (map_of table.new.places.items) at pages.new.items }
+    ensures put { cells_of table.new.places.items ≡ put_places (cells_of table.old.places.items) at pages.old.items }
+    ensures was { cells_of table.old.places.items ≡ put_places (cells_of table.new.places.items) at pages.new.items }
     ensures len { length pages.new.items ≡ length pages.old.items }
     ensures places { length table.new.places.items ≡ length table.old.places.items }
 {
@@ -55,7 +55,8 @@ pub fn one_place(alloc: Global, page: Page) -> Result<Vec<Option<Page>>, AllocEr
 // So many places, each with a page of zeros or without a page.
 pub fn places_of(alloc: Global, pages: u32, zeros: bool) -> Result<Vec<Option<Page>>, AllocError>
     ensures len { IfOk result (λ places. length places.items ≡ pages) }
-    ensures all { IfOk result (λ places. All (λ place. bytes_of place ≡ (if zeros then Some [] else None)) places.items) }
+    ensures all { IfOk result (λ places. All (λ place. cell_of place ≡ (if zeros then Some Blank else None)) places.items) }
+    ensures here { IfOk result (λ places. All (λ place. is_away (cell_of place) ≡ false) places.items) }
 {
     let mut places = Vec::with_capacity(alloc, pages as usize)?;
     for _ in 0..pages {
@@ -70,7 +71,8 @@ pub fn cut_pages(alloc: Global, bytes: &[u8], pages: u32) -> Result<Vec<Option<P
     requires { length bytes.now ≡ 4096 * pages }
     ensures len { IfOk result (λ places. length places.items ≡ pages) }
     ensures pages { IfOk result (λ places. (i : ℕ) → i < pages →
-        bytes_of (slice_index_or places.items i None) ≡ Some (take 4096 (drop (4096 * i) bytes.now))) }
+        cell_of (slice_index_or places.items i None) ≡ Some (Kept (take 4096 (drop (4096 * i) bytes.now)))) }
+    ensures here { IfOk result (λ places. All (λ place. is_away (cell_of place) ≡ false) places.items) }
 {
     let mut places = Vec::with_capacity(alloc, pages as usize)?;
     for i in 0..pages as usize {

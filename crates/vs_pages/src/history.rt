@@ -1,7 +1,8 @@
 // Changes that are taken back, and that are committed.
 ghost use Rattle.std.specs.Prelude.{◌≡◌, ◌+◌, ◌≤◌, All, length};
-ghost use Rattle.vs_pages.specs.Maps.{numbers, IsEnd};
-ghost use Rattle.vs_pages.specs.Table.{last_in, map_of, noted};
+ghost use Rattle.vs_pages.specs.Cells.{IsEndOf};
+ghost use Rattle.vs_pages.specs.Maps.{numbers};
+ghost use Rattle.vs_pages.specs.Table.{cells_of, last_in, noted};
 ghost use Rattle.vs_pages.specs.History.{HasRun, end_of, numbers_in, numbers_of, put_places};
 
 use crate::change::{Change, Run};
@@ -12,10 +13,10 @@ use crate::vacant::Vacant;
 // Takes a run back, and gives the number after the last page, which was `used`. A number that the run used is vacant again, and one
 // that it left is not.
 pub fn undo_run(table: &mut Table, vacant: &mut Vacant, used: u64, run: Run) -> u64
-    requires run { HasRun (map_of table.old.places.items) (length table.old.places.items) run }
-    requires used { IsEnd (map_of table.old.places.items) used }
-    ensures used { IsEnd (map_of table.new.places.items) result }
-    ensures map { map_of table.new.places.items ≡ put_places (map_of table.old.places.items) run.at run.was.items }
+    requires run { HasRun (cells_of table.old.places.items) (length table.old.places.items) run }
+    requires used { IsEndOf (cells_of table.old.places.items) used }
+    ensures used { IsEndOf (cells_of table.new.places.items) result }
+    ensures cells { cells_of table.new.places.items ≡ put_places (cells_of table.old.places.items) run.at run.was.items }
     ensures places { length table.new.places.items ≡ run.places }
 {
     let Run {

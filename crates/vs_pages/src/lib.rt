@@ -14,9 +14,11 @@ mod lent;
 mod memory;
 mod page;
 mod pages;
+mod presence;
 mod table;
 mod vacant;
 
 pub use lent::LentPages;
 pub use memory::MemPages;
 pub use pages::{PAGE_SIZE, PageErr, Pages};
+pub use presence::Presence;

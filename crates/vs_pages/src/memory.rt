@@ -1,14 +1,15 @@
 // Pages in memory.
-ghost use Rattle.std.specs.Prelude.{◌≡◌, ◌+◌, ◌-◌, ◌^◌, ◌<◌, ◌≤◌, [], ℕ, Some, None, IfOk, OnOk, OnErr, IsSome, IfSome, IsTrue, IsSomeAnd, ◌↔◌, if◌then◌else◌, false, drop, length, vec_len};
-ghost use Rattle.vs_pages.specs.Maps.{numbers, patched, pages_at, put, first_pages, IsEnd, IsVacant};
-ghost use Rattle.vs_pages.specs.Table.{last_in, map_of};
-ghost use Rattle.vs_pages.specs.History.{AreSteps, HaveNoGaps, put_places};
-ghost use Rattle.vs_pages.specs.HistoryLaws.{AreMade-prop, AreSteps-prop, HaveNoGaps-prop, IsEnd-prop};
+ghost use Rattle.std.specs.Prelude.{◌≡◌, ◌+◌, ◌-◌, ◌^◌, ◌<◌, ◌≤◌, [], ℕ, All, Some, None, IfNone, IfOk, OnOk, OnErr, IsSome, IfSome, IsTrue, ◌↔◌, false, drop, is_some, length, vec_len};
+ghost use Rattle.vs_pages.specs.Cells.{Away, Kept, is_away, put_cell, rewritten, IsEndOf, IsWritten};
+ghost use Rattle.vs_pages.specs.Maps.{Map, numbers, pages_at, first_pages, no_pages, IsVacant};
+ghost use Rattle.vs_pages.specs.Table.{IsPlace, cell_of, cells_of, last_in};
+ghost use Rattle.vs_pages.specs.History.{AreSteps, HaveNoGaps, numbers_in, put_places};
+ghost use Rattle.vs_pages.specs.HistoryLaws.{AreMade-prop, AreSteps-prop, HaveNoGaps-prop, IsEndOf-prop};
 ghost use Rattle.vs_pages.specs.State.{AreMade};
 
+mod places;
 mod store;
 
-use crate::PAGE_SIZE;
 use crate::before::undo_at;
 use crate::change::{Change, Patch, Run};
 use crate::exchange::{exchange, first_place, places_of};
@@ -16,14 +17,18 @@ use crate::history::{note_all, undo_run};
 use crate::page::Page;
 use crate::table::Table;
 use crate::vacant::Vacant;
+use crate::{PAGE_SIZE, Presence};
 use std::alloc::{AllocError, Global};
 
 // All page numbers lie below this one.
 const MOST_PAGES: u64 = 1 << 40;
 
-/// A store that keeps all pages in memory, and of each change since the last commit or rollback what it changed.
+/// A store that keeps pages in memory, and of each change since the last commit or rollback what it changed.
 ///
 /// A page of zeros takes no memory until it is written. A commit, a rollback and a way back take none.
+///
+/// A page that was committed may be sent away: it is there, and its bytes are not in memory. Whoever sends it away keeps its bytes. As a
+/// store of its own it shows only pages that are in memory; the calls on places take pages that are away, too.
 pub struct MemPages {
     table: Table,
     // The changes since the last commit or rollback, the last one last.
@@ -37,7 +42,7 @@ pub struct MemPages {
     commits: u64,
     ghost undo: { AreSteps table.places.items log.items } by { AreSteps-prop table.places.items log.items },
     ghost counted: { length table.places.items ≤ vec_len last },
-    ghost ends: { IsEnd (map_of table.places.items) used } by { IsEnd-prop (map_of table.places.items) used },
+    ghost ends: { IsEndOf (cells_of table.places.items) used } by { IsEndOf-prop (cells_of table.places.items) used },
     ghost no_gaps: { HaveNoGaps table.places.items log.items } by { HaveNoGaps-prop table.places.items log.items },
     ghost begun: { 1 ≤ commits },
     ghost made: { AreMade (record { count = commits; last = last_in last.items }) } by { AreMade-prop commits (last_in last.items) },
@@ -59,13 +64,14 @@ impl Drop for MemPages {
 
 impl MemPages {
     ghost use Rattle.vs_pages.specs.State.{history_of, one_more};
-    ghost use Rattle.vs_pages.specs.Memory.{present_of, committed_of, commits_of, kept_of, state_of, IsOne, IsSame};
+    ghost use Rattle.vs_pages.specs.Memory.{changes_of, present_of, committed_of, commits_of, first_kept_of, kept_of, present_under, state_under, AreBacked, IsOne, IsSame, KeepsSince};
 
     /// A store with the pages 0, 1 and 2, as zeros, which are committed.
     pub fn new(alloc: Global) -> Result<MemPages, AllocError>
         ensures present { IfOk result (λ pages. present_of pages ≡ first_pages) }
         ensures committed { IfOk result (λ pages. committed_of pages ≡ first_pages) }
         ensures commits { IfOk result (λ pages. 1 ≤ (commits_of pages).count) }
+        ensures here { IfOk result (λ pages. AreBacked no_pages pages) }
     {
         let mut pages = MemPages {
             table: Table::new(alloc),
@@ -84,7 +90,7 @@ impl MemPages {
     // Adds places without a page, until there are at least `len` places.
     fn extend_to(&mut self, len: u64) -> Result<(), AllocError>
         requires { len ≤ 2 ^ 40 }
-        ensures map { kept_of self.new ≡ kept_of self.old }
+        ensures kept { kept_of self.new ≡ kept_of self.old }
         ensures log { self.new.log ≡ self.old.log }
         ensures used { self.new.used ≡ self.old.used }
         ensures commits { commits_of self.new ≡ commits_of self.old }
@@ -102,6 +108,7 @@ impl MemPages {
     fn change(&mut self, at: u64, pages: Vec<Option<Page>>) -> Result<(), AllocError>
         requires bound { 0 < length pages.items → at + length pages.items ≤ 2 ^ 40 }
         requires near { 0 < length pages.items → at ≤ self.old.used }
+        requires here { All (λ place. is_away (cell_of place) ≡ false) pages.items }
         ensures ok { OnOk result (IsOne self.old self.new (put_places (kept_of self.old) at pages.items) (numbers at (length pages.items))) }
         ensures err { OnErr result (IsSame self.old self.new) }
     {
@@ -124,9 +131,9 @@ impl MemPages {
         from: usize,
         bytes: &[u8],
     ) -> Result<(), AllocError>
-        requires written { IsSomeAnd (kept_of self.old at) (λ bytes. length bytes ≡ 4096) }
+        requires written { IsWritten (kept_of self.old at) }
         requires within { from + length bytes.now ≤ 4096 }
-        ensures ok { OnOk result (IsOne self.old self.new (put (kept_of self.old) at (patched (kept_of self.old at) from bytes.now)) (numbers at 1)) }
+        ensures ok { OnOk result (IsOne self.old self.new (put_cell (kept_of self.old) at (rewritten (kept_of self.old at) from bytes.now)) (numbers at 1)) }
         ensures err { OnErr result (IsSame self.old self.new) }
     {
         self.log.reserve(1)?;
@@ -139,9 +146,9 @@ impl MemPages {
     // Takes the last change back.
     fn undo(&mut self)
         requires { 0 < length self.old.log.items }
-        ensures history { (state_of self.old).before ≡ history_of (state_of self.new) }
+        ensures history { (away : Map) → (state_under away self.old).before ≡ history_of (state_under away self.new) }
         ensures commits { commits_of self.new ≡ commits_of self.old }
-        ensures committed { committed_of self.new ≡ committed_of self.old }
+        ensures committed { first_kept_of self.new ≡ first_kept_of self.old }
         ensures log { length self.new.log.items + 1 ≡ length self.old.log.items }
     {
         match self.log.pop() {
@@ -153,24 +160,26 @@ impl MemPages {
         }
     }
 
-    // Takes changes back until so many are left.
-    fn undo_to(&mut self, mark: u64)
-        requires { mark ≤ length (state_of self.old).before }
-        ensures back { history_of (state_of self.new) ≡ drop (length (state_of self.old).before - mark) (history_of (state_of self.old)) }
-        ensures count { length (state_of self.new).before ≡ mark }
+    /// Takes changes back until so many are left. Takes no memory.
+    pub fn undo_to(&mut self, mark: u64)
+        requires { mark ≤ length (changes_of self.old) }
+        ensures back { (away : Map)
+            → history_of (state_under away self.new) ≡ drop (length (changes_of self.old) - mark) (history_of (state_under away self.old)) }
+        ensures count { length (changes_of self.new) ≡ mark }
         ensures commits { commits_of self.new ≡ commits_of self.old }
-        ensures committed { committed_of self.new ≡ committed_of self.old }
+        ensures committed { first_kept_of self.new ≡ first_kept_of self.old }
+        ensures stays { KeepsSince self.old self.new }
     {
         'changes: while self.log.len() as u64 > mark {
             self.undo();
         }
     }
 
-    // Makes the pages as they are now the committed ones.
-    fn commit_all(&mut self)
-        ensures map { kept_of self.new ≡ kept_of self.old }
-        ensures log { self.new.log.items ≡ [] }
-        ensures commits { commits_of self.new ≡ one_more (state_of self.old).worked (commits_of self.old) }
+    /// Makes the pages as they are now the committed ones. Takes no memory.
+    pub fn commit_all(&mut self)
+        ensures kept { kept_of self.new ≡ kept_of self.old }
+        ensures changes { changes_of self.new ≡ [] }
+        ensures commits { commits_of self.new ≡ one_more (numbers_in (changes_of self.old)) (commits_of self.old) }
         ensures later { self.old.commits ≤ self.new.commits }
     {
         note_all(&mut self.last, &self.log, self.commits);
@@ -195,7 +204,7 @@ impl MemPages {
     // Whether none of `pages` neighbouring places has a page.
     fn is_vacant(&self, at: u64, pages: u32) -> bool
         requires { at + pages ≤ 2 ^ 40 }
-        ensures { IsTrue result → IsVacant (present_of self.now) at pages }
+        ensures { IsTrue result → (away : Map) → IsVacant (present_under away self.now) at pages }
     {
         for i in 0..pages as u64 {
             if self.table.has(at + i) {
@@ -207,7 +216,7 @@ impl MemPages {
 
     // The first of `pages` neighbouring numbers without a page, which is the one after the last page at most.
     fn vacant_run(&self, pages: u32) -> Option<u64>
-        ensures vacant { IfSome result (λ at. IsVacant (present_of self.now) at pages) }
+        ensures vacant { IfSome result (λ at. (away : Map) → IsVacant (present_under away self.now) at pages) }
         ensures bound { IfSome result (λ at. at + pages ≤ 2 ^ 40) }
         ensures near { IfSome result (λ at. at ≤ self.now.used) }
     {
@@ -229,26 +238,26 @@ impl MemPages {
     {
         into.clear();
         for i in 0..pages as u64 {
-            let Some(page) = self.table.page(at + i) else {
+            let Some(bytes) = self.table.bytes(at + i) else {
                 unreachable!()
             };
-            into.extend_from_slice(page.as_slice())?;
+            into.extend_from_slice(bytes)?;
         }
         Ok(())
     }
 
     /// Whether there was a change since the last commit or rollback.
     pub fn is_changed(&self) -> bool
-        ensures { result ≡ false → committed_of self.now ≡ present_of self.now }
+        ensures { result ≡ false → changes_of self.now ≡ [] }
     {
         !self.log.is_empty()
     }
 
-    /// Copies a page as it was last committed, and says whether there was one. Takes no memory.
-    pub fn copy_committed(&self, at: u64, into: &mut [u8]) -> bool
+    /// Copies a page as it was last committed, unless it is away, and says whether there was one. Takes no memory.
+    pub fn copy_committed(&self, at: u64, into: &mut [u8]) -> Presence
         requires { length into.old ≡ 4096 }
         ensures size { length into.new ≡ 4096 }
-        ensures page { committed_of self.now at ≡ (if result then Some into.new else None) }
+        ensures page { IsPlace result into.new (first_kept_of self.now at) }
     {
         let mut there = self.table.copy_page(at, into);
         let mut left = self.log.len();
@@ -259,21 +268,31 @@ impl MemPages {
         there
     }
 
+    // Whether there was a page when it was last committed.
+    fn had(&self, at: u64) -> bool
+        ensures { result ≡ is_some (first_kept_of self.now at) }
+    {
+        let mut page = [0; PAGE_SIZE];
+        match self.copy_committed(at, &mut page) {
+            Presence::Missing => false,
+            Presence::Here => true,
+            Presence::Away => true,
+        }
+    }
+
     /// The number after that of the last committed page, or 0 where there is none. Takes no memory.
     pub fn committed_end(&self) -> u64
         ensures bound { result ≤ 2 ^ 40 }
-        ensures past { (k : ℕ) → result ≤ k → committed_of self.now k ≡ None }
-        ensures last { 0 < result → IsSome (committed_of self.now (result - 1)) }
+        ensures end { IsEndOf (first_kept_of self.now) result }
     {
-        let mut page = [0; PAGE_SIZE];
         let mut end = self.table.len();
-        'places: while end > 0 && !self.copy_committed(end - 1, &mut page) {
+        'places: while end > 0 && !self.had(end - 1) {
             end -= 1;
         }
         end
     }
 
-    /// Whether `pages` neighbouring pages from `at` on are there.
+    /// Whether `pages` neighbouring pages from `at` on are in memory.
     pub fn has(&self, at: u64, pages: u32) -> bool
         ensures { IsTrue result ↔ IsSome (pages_at (present_of self.now) at pages) }
     {
@@ -281,7 +300,7 @@ impl MemPages {
             return pages == 0;
         }
         for i in 0..pages as u64 {
-            if !self.table.has(at + i) {
+            if !self.table.is_here(at + i) {
                 return false;
             }
         }

@@ -1,16 +1,20 @@
 -- How many calls a sync makes: a run has one stale number at least, and no number is in two runs. A list that has each stale number is no
 -- shorter than there are.
-use Rattle.std.proofs.Common.{◌≡◌, ◌⊎◌, inl, inr, ℕ, zero, suc, ◌+◌, ◌-◌, ◌^◌, ◌<◌, ◌≤◌, ◌&&◌, ◌||◌, not, Bool, true, false, nat_eq, nat_le, List, [], ◌∷◌, length, IsSome, IsTrue, Option, Some, None, refl, sym, ◌∙◌, ap, subst, arith}
+use Rattle.std.proofs.Common.{◌≡◌, inl, inr, ℕ, zero, suc, ◌+◌, ◌-◌, ◌^◌, ◌<◌, ◌≤◌, ◌&&◌, not, Bool, true, false, nat_eq, nat_le, List, [], ◌∷◌, length, IsSome, IsTrue, Option, refl, sym, ◌∙◌, ap, subst, arith}
 use Rattle.std.specs.Prelude.{Contains, is_some}
 use Rattle.std.proofs.lemmas.Bool.{cases_Bool, cases_lt, or_cases, true≢false}
 use Rattle.std.proofs.lemmas.Bool.Decides.{nat_tests}
 use Rattle.vs_host.specs.World.{Tells, Scene}
-use Rattle.vs_disk.specs.Runs.{CallsAtMost}
-use Rattle.vs_pages.specs.Memory.{commits_of, committed_of}
-use Rattle.vs_pages.specs.MemoryLaws.{are_committed}
+use Rattle.vs_pages.specs.Cells.{Cell}
+use Rattle.vs_pages.specs.HistoryLaws.{first_past}
+use Rattle.vs_pages.specs.Maps.{Map}
+use Rattle.vs_pages.specs.Memory.{changes_of, commits_of, first_kept_of, kept_of, AreBacked}
 use Rattle.vs_pages.specs.declared.memory.MemPages.{MemPages}
 use Rattle.vs_pair.specs.declared.written.Written.{Written}
-use Rattle.vs_pair.specs.Held.{HasReach, held_of}
+use Rattle.vs_pages.proofs.TableLemmas.{cells_of-end}
+use Rattle.vs_pair.specs.Acts.{WorksAtMost}
+use Rattle.vs_pair.specs.Held.{HasReach, held_with}
+use Rattle.vs_pair.proofs.HeldLemmas.{committed_seen}
 use Rattle.vs_pair.specs.Stale.{HasChanged, IsBehind, IsEnd, is_stale, one_if, stale_below}
 
 -- ---- stale numbers
@@ -31,12 +35,18 @@ module _ (pages : MemPages) (has : Written) where
       let after : stale_below (commits_of pages) has (suc n) ≤ stale_below (commits_of pages) has to = stale_up_to (suc n) to (omega (arith, less)) in
       omega (arith, one, after)
 
+  -- as many numbers as there are in a run of stale ones count
+  pub run_more : (n count to : ℕ) → 1 ≤ n → ((k : ℕ) → k < count → is_stale (commits_of pages) has (n + k) ≡ true) → n + count ≤ to → stale_below (commits_of pages) has n + count ≤ stale_below (commits_of pages) has to
+  run_more n zero to some all le = omega (arith, stale_up_to n to (omega (arith, le)))
+  run_more n (suc count) to some all le =
+      let last : stale_below (commits_of pages) has (n + count) + 1 ≤ stale_below (commits_of pages) has to =
+      one_more (n + count) to (omega (arith, some)) (all count (omega arith)) (omega (arith, le)) in
+      omega (arith, last, run_more n count (n + count) some (λ k less. all k (omega (arith, less))) (omega arith))
+
 -- the number after the last page is no greater than one from which on there is none
-pub least_end : (pages : MemPages) (last end : ℕ) → (0 < last → IsSome (committed_of pages (last - 1))) → IsEnd pages end → last ≤ end
+pub least_end : (pages : MemPages) (last end : ℕ) → (0 < last → IsSome (first_kept_of pages (last - 1))) → IsEnd pages end → last ≤ end
 least_end pages last end some is = elim (cases_lt end last) [
-  | inl less ↦
-      let there : IsSome (committed_of pages (last - 1)) = some (omega (arith, less)) in
-      absurd (true≢false (sym (subst (λ (o : Option (List ℕ)). IsSome o) (is.past (last - 1) (omega (arith, less))) there)))
+  | inl less ↦ absurd (true≢false (sym (some (omega (arith, less))) ∙ is.past (last - 1) (omega (arith, less))))
   | inr past ↦ past
 ]
 
@@ -106,27 +116,28 @@ record HasLast (pages : MemPages) (end : ℕ) : Type 0 where
   last : ℕ
   within : last ≤ end
   is : IsEnd pages last
-  page : 1 < last → IsSome (committed_of pages (last - 1))
+  page : 1 < last → IsSome (first_kept_of pages (last - 1))
 
 last_of : (pages : MemPages) (end : ℕ) → IsEnd pages end → HasLast pages end
 last_of pages zero is = absurd (omega (arith, is.some))
 last_of pages (suc zero) is = record { last = 1; within = omega arith; is = is; page = λ less. absurd (omega (arith, less)) }
-last_of pages (suc (suc n)) is = at_last (committed_of pages (suc n)) refl (λ below. last_of pages (suc n) below)
+last_of pages (suc (suc n)) is = elim (cases_Bool (is_some (first_kept_of pages (suc n)))) [
+  | inl there ↦ record {
+    last = suc (suc n);
+    within = omega arith;
+    is = is;
+    page = λ less. let same : suc n ≡ suc (suc n) - 1 = omega arith in subst (λ (j : ℕ). IsSome (first_kept_of pages j)) same there;
+  }
+  | inr none ↦
+      let below : HasLast pages (suc n) = last_of pages (suc n) (record { some = omega arith; past = none_from none }) in
+      record { last = below.last; within = omega (arith, below.within); is = below.is; page = below.page }
+]
   where
-    none_from : committed_of pages (suc n) ≡ None → (k : ℕ) → suc n ≤ k → committed_of pages k ≡ None
+    none_from : is_some (first_kept_of pages (suc n)) ≡ false → (k : ℕ) → suc n ≤ k → is_some (first_kept_of pages k) ≡ false
     none_from none k from = elim (cases_lt k (suc (suc n))) [
-      | inl less ↦ let same : suc n ≡ k = omega (arith, from, less) in subst (λ (j : ℕ). committed_of pages j ≡ None) same none
+      | inl less ↦ let same : suc n ≡ k = omega (arith, from, less) in subst (λ (j : ℕ). is_some (first_kept_of pages j) ≡ false) same none
       | inr past ↦ is.past k past
     ]
-
-    at_last : (found : Option (List ℕ)) → committed_of pages (suc n) ≡ found → (IsEnd pages (suc n) → HasLast pages (suc n)) → HasLast pages (suc (suc n))
-    at_last None none before =
-        let below : HasLast pages (suc n) = before (record { some = omega arith; past = none_from none }) in
-        record { last = below.last; within = omega (arith, below.within); is = below.is; page = below.page }
-    at_last (Some page) some before =
-        let there : IsSome (committed_of pages (suc n)) = ap is_some some in
-        let same : suc n ≡ suc (suc n) - 1 = omega arith in
-        record { last = suc (suc n); within = omega arith; is = is; page = λ less. subst (λ (j : ℕ). IsSome (committed_of pages j)) same there }
 
 counted : (pages : MemPages) (has : Written) (n : ℕ) → stale_below (commits_of pages) has n ≡ count (λ k. nat_le 1 k && is_stale (commits_of pages) has k) n
 counted pages has zero = refl
@@ -136,14 +147,14 @@ both_true : (a b : Bool) → (a && b) ≡ true → (a ≡ true) × (b ≡ true)
 both_true true b is = (refl, is)
 both_true false b is = absurd (true≢false (sym is))
 
-module _ (pages : MemPages) (has : Written) (reach : HasReach (held_of pages) has.commits has.end) (end : ℕ) (numbers : List ℕ) (changed : HasChanged pages has end numbers) (ends : HasLast pages end) where
+module _ (away : Map) (pages : MemPages) (backed : AreBacked away pages) (has : Written) (reach : HasReach (held_with away pages) has.commits has.end) (end : ℕ) (numbers : List ℕ) (changed : HasChanged pages has end numbers) (ends : HasLast pages end) where
   -- what lies after the last page of the file was changed since, too
   is_changed : (k : ℕ) → 1 ≤ k → k < ends.last → is_stale (commits_of pages) has k ≡ true → has.commits ≤ (commits_of pages).last k
   is_changed k some less is = elim (or_cases (nat_le has.commits ((commits_of pages).last k)) (nat_le has.end k) is) [
     | inl later ↦ grind (arith, nat_tests)
     | inr past ↦
         let from : has.end ≤ k = grind (arith, nat_tests) in
-        reach k (ends.last - 1) from (omega (arith, less)) (ends.page (omega (arith, some, less)))
+        reach k (ends.last - 1) from (omega (arith, less)) (committed_seen away pages backed (ends.last - 1) (ends.page (omega (arith, some, less))))
   ]
 
   in_list : (k : ℕ) → k < ends.last → (nat_le 1 k && is_stale (commits_of pages) has k) ≡ true → Contains numbers k
@@ -157,23 +168,27 @@ module _ (pages : MemPages) (has : Written) (reach : HasReach (held_of pages) ha
 
 -- ---- calls
 
-module _ (tells : Tells) (old new : Scene) (pages : MemPages) (has : Written) (reach : IsTrue tells.folder → HasReach (held_of pages) has.commits has.end)
-    (calls : (end : ℕ) → IsEnd pages end → CallsAtMost tells old new (6 + stale_below (commits_of pages) has end)) where
-  pub few_calls : (end : ℕ) (numbers : List ℕ) → IsEnd pages end → HasChanged pages has end numbers → CallsAtMost tells old new (6 + length numbers)
+module _ (tells : Tells) (old new : Scene) (away : Map) (pages : MemPages) (has : Written) (backed : IsTrue tells.folder → AreBacked away pages) (reach : IsTrue tells.folder → HasReach (held_with away pages) has.commits has.end)
+    (works : (end : ℕ) → IsEnd pages end → WorksAtMost tells old new (6 + stale_below (commits_of pages) has end) (stale_below (commits_of pages) has end)) where
+  pub few_calls : (end : ℕ) (numbers : List ℕ) → IsEnd pages end → HasChanged pages has end numbers → WorksAtMost tells old new (6 + length numbers) (length numbers)
   few_calls end numbers is changed =
       let ends : HasLast pages end = last_of pages end is in
-      let within : CallsAtMost tells old new (6 + stale_below (commits_of pages) has ends.last) = calls ends.last ends.is in
-      record { calls = λ told. omega (arith, within.calls told, stale_in pages has (reach told) end numbers changed ends) }
+      let within : WorksAtMost tells old new (6 + stale_below (commits_of pages) has ends.last) (stale_below (commits_of pages) has ends.last) = works ends.last ends.is in
+      record {
+        calls = λ told. omega (arith, within.calls told, stale_in away pages (backed told) has (reach told) end numbers changed ends);
+        reads = λ told. omega (arith, within.reads told, stale_in away pages (backed told) has (reach told) end numbers changed ends);
+      }
 
   -- all page numbers lie below a bound
   ends_at_bound : IsEnd pages (2 ^ 40)
-  ends_at_bound = record { some = omega arith; past = λ k from. none_past k from (committed_of pages k) refl }
-    where
-      none_past : (k : ℕ) → 2 ^ 40 ≤ k → (found : Option (List ℕ)) → committed_of pages k ≡ found → committed_of pages k ≡ None
-      none_past k from None is = is
-      none_past k from (Some page) is = absurd (omega (arith, from, (are_committed pages).below k page is))
+  ends_at_bound = record {
+    some = omega arith;
+    past = λ k from.
+        let places = pages.table.places.items in
+        first_past (kept_of pages) (length places) (changes_of pages) pages.undo (λ j past. ap (λ (cell : Option Cell). is_some cell) (cells_of-end places j past)) k (omega (arith, from, pages.table.bound));
+  }
 
-  pub behind_calls : (most : ℕ) → IsBehind pages has most → CallsAtMost tells old new (6 + most)
+  pub behind_calls : (most : ℕ) → IsBehind pages has most → WorksAtMost tells old new (6 + most) most
   behind_calls most behind =
-      let few : CallsAtMost tells old new (6 + length behind.numbers) = few_calls (2 ^ 40) behind.numbers ends_at_bound (λ k some less since. behind.changed k since) in
-      record { calls = λ told. omega (arith, few.calls told, behind.few) }
+      let few : WorksAtMost tells old new (6 + length behind.numbers) (length behind.numbers) = few_calls (2 ^ 40) behind.numbers ends_at_bound (λ k some less since. behind.changed k since) in
+      record { calls = λ told. omega (arith, few.calls told, behind.few); reads = λ told. omega (arith, few.reads told, behind.few) }

@@ -9,10 +9,14 @@ pub mod Behind
 pub mod Gates
 pub mod Spared
 pub mod Reading
+pub mod ReadLemmas
 pub mod Offers
 pub mod FitLemmas
+pub mod AwayLemmas
+pub mod CacheLemmas
 pub mod MadeFiles
 pub mod Starts
 pub mod Ends
 pub mod Others
 pub mod Lending
+pub mod Turns

@@ -16,9 +16,7 @@ use Rattle.vs_host.specs.World.{Tells, Scene}
 use Rattle.vs_disk.specs.Runs.{NoneFails}
 use Rattle.vs_pair.specs.Acts.{Acts}
 use Rattle.std.specs.Prelude.{IsSomeAnd}
-use Rattle.vs_pages.specs.Memory.{commits_of}
-use Rattle.vs_pages.specs.declared.memory.MemPages.{MemPages}
-use Rattle.vs_pair.specs.Held.{held_of}
+use Rattle.vs_pair.specs.Held.{Held}
 use Rattle.vs_pair.specs.Stale.{HasFresh, nothing}
 use Rattle.vs_pair.proofs.FreshPages.{none_fresh}
 use Rattle.vs_pair.proofs.Acts.{acts_as, acts_then}
@@ -226,11 +224,11 @@ marked_new temporary old new writes has =
     (λ a b empty is. ap (λ (f : File). f.bytes) is ∙ ap (λ (f : File). put f.bytes 0 open_mark) empty) old new has writes
 
 -- nothing is known of its pages
-pub new_fresh : (temporary : Name) (pages : MemPages) (disk : Disk) → FileHas disk temporary (λ file. file.bytes ≡ open_mark) → FileHas disk temporary (λ file. HasFresh (held_of pages) nothing file.bytes)
+pub new_fresh : (temporary : Name) (pages : Held) (disk : Disk) → FileHas disk temporary (λ file. file.bytes ≡ open_mark) → FileHas disk temporary (λ file. HasFresh pages nothing file.bytes)
 new_fresh temporary pages disk has = record {
   number = has.number;
   leads = has.leads;
-  has = record { long = let two : length (disk.files has.number).bytes ≡ 2 = ap length has.has in omega (arith, two); fresh = λ k least is. absurd (none_fresh (commits_of pages) k is) };
+  has = record { long = let two : length (disk.files has.number).bytes ≡ 2 = ap length has.has in omega (arith, two); fresh = λ k least is. absurd (none_fresh pages.commits k is) };
 }
 
 pub whole_new : (temporary : Name) (body : Body) (old new : Disk) → ChangesFile temporary (WritesBody body) old new → FileHas old temporary (λ file. file.bytes ≡ open_mark) → FileHas new temporary (λ file. Leaves file (IsMade body))

@@ -1,4 +1,5 @@
 pub mod Acts
+pub mod Cached
 pub mod Held
 pub mod HeldLaws
 pub mod Pair

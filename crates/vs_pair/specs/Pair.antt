@@ -8,7 +8,7 @@ use Rattle.vs_host.specs.Names.{AreNames}
 use Rattle.vs_disk.specs.Images.{FileAlways}
 use Rattle.vs_disk.specs.Names.{SameAt}
 use Rattle.vs_pages.specs.Maps.{Map}
-use Rattle.vs_pages.specs.Memory.{state_of}
+use Rattle.vs_pages.specs.Memory.{committed_of, state_under}
 use Rattle.vs_pages.specs.State.{PageState}
 use Rattle.vs_text.specs.Text.{IsText, stored}
 use Rattle.vs_text.specs.Documents.{Document}
@@ -24,7 +24,7 @@ use Rattle.vs_pair.specs.declared.side.Side.TheVariants.{Swp, Swo}
 use Rattle.vs_pair.specs.declared.files.SwapFiles.{SwapFiles}
 use Rattle.vs_pair.specs.declared.pair.SwapPair.{SwapPair}
 use Rattle.vs_pair.specs.declared.written.Written.{Written}
-use Rattle.vs_pair.specs.Held.{Held, held_of}
+use Rattle.vs_pair.specs.Held.{Held, held_with, pages_under}
 use Rattle.vs_pair.specs.Swap.{Synced, body_of, IsOpen, HasBody, Holds, Fits, MayBeClosed}
 use Rattle.vs_pair.specs.Stale.{Keeps}
 
@@ -141,13 +141,17 @@ known_with files pages = record {
   older_has = files.older_has;
 }
 
+-- the pages of the newer file, which stand in the place of those that are away
+abbrev pub away_of : SwapFiles → Disk → Map
+away_of files disk = pages_under disk (name_of files.names files.newer)
+
 -- what a pair shows of its pages over this folder
 abbrev pub shown_in : SwapPair → Disk → PageState
-shown_in pair disk = state_of pair.pages
+shown_in pair disk = state_under (away_of pair.files disk) pair.pages
 
 -- what it holds of them
 abbrev pub held_in : SwapPair → Disk → Held
-held_in pair disk = held_of pair.pages
+held_in pair disk = held_with (away_of pair.files disk) pair.pages
 
 -- its committed pages
 abbrev pub committed_in : SwapPair → Disk → Map
@@ -160,6 +164,10 @@ known_of pair disk = known_with pair.files (held_in pair disk)
 -- a sync of the committed pages
 abbrev pub sync_with : SwapPair → Disk → ℕ → Head → Synced
 sync_with pair disk generation head = record { generation = generation; head = head; pages = committed_in pair disk }
+
+-- a sync of the committed pages before the start, when none is away
+abbrev pub sync_fresh : SwapPair → ℕ → Head → Synced
+sync_fresh pair generation head = record { generation = generation; head = head; pages = committed_of pair.pages }
 
 -- the sync that is about to begin
 abbrev pub sync_of : SwapPair → Disk → Head → Synced

@@ -1,8 +1,8 @@
 -- In which page numbers a swap file may differ from the committed pages.
-use Rattle.std.specs.Prelude.{◌≡◌, ℕ, zero, suc, ◌+◌, ◌-◌, ◌^◌, ◌<◌, ◌≤◌, ◌&&◌, ◌||◌, Bool, true, false, nat_le, List, length, Some, None, IsSome, Contains}
+use Rattle.std.specs.Prelude.{◌≡◌, ℕ, zero, suc, ◌+◌, ◌-◌, ◌^◌, ◌<◌, ◌≤◌, ◌&&◌, ◌||◌, Bool, true, false, nat_le, List, length, Some, IsSome, is_some, Contains}
 use Rattle.vs_host.specs.File.{File, IsFileImage}
 use Rattle.vs_pages.specs.Maps.{Map}
-use Rattle.vs_pages.specs.Memory.{commits_of, committed_of}
+use Rattle.vs_pages.specs.Memory.{commits_of, first_kept_of}
 use Rattle.vs_pages.specs.State.{Commits}
 use Rattle.vs_pages.specs.declared.memory.MemPages.{MemPages}
 use Rattle.vs_swap.specs.Files.{page_in}
@@ -46,7 +46,7 @@ pub record Keeps (gate : Gate) (pages : Held) (written : Written) (map : Map) : 
 -- What is known of a file that has all committed pages: no commit came since, and no page lies after its end.
 pub record KnowsAll (pages : MemPages) (written : Written) : Type 0 where
   pub commits : written.commits ≡ (commits_of pages).count
-  pub past : (k : ℕ) → written.end ≤ k → committed_of pages k ≡ None
+  pub past : (k : ℕ) → written.end ≤ k → is_some (first_kept_of pages k) ≡ false
 
 -- ---- how much is written
 
@@ -63,7 +63,7 @@ stale_below commits written (suc n) = one_if (nat_le 1 n && is_stale commits wri
 -- No page is committed from this number on, which lies after page 0.
 pub record IsEnd (pages : MemPages) (end : ℕ) : Type 0 where
   pub some : 1 ≤ end
-  pub past : (k : ℕ) → end ≤ k → committed_of pages k ≡ None
+  pub past : (k : ℕ) → end ≤ k → is_some (first_kept_of pages k) ≡ false
 
 -- The list has each number after page 0 and below this end that a commit changed since.
 abbrev pub HasChanged : MemPages → Written → ℕ → List ℕ → Type 0

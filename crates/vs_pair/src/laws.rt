@@ -9,9 +9,10 @@ ghost use Rattle.vs_zero.specs.Zero.{reading_of};
 ghost use Rattle.vs_text.specs.Documents.{Document};
 ghost use Rattle.vs_swap.specs.Recovery.{Recovered};
 ghost use Rattle.vs_pair.specs.Swap.{Synced, Holds, IsFormatNumber, body_of, zero_of};
-ghost use Rattle.vs_pair.specs.Pair.{Image, Known, is_swap, IsFit, IsBetween, IsDocumentOf, Offers, Recovers, Rises, held_in, known_of, name_of, other_side};
+ghost use Rattle.vs_pair.specs.Pair.{Image, Known, is_swap, IsFit, IsBetween, IsDocumentOf, Offers, Recovers, Rises, away_of, held_in, known_of, name_of, other_side};
 ghost use Rattle.vs_pair.specs.Stale.{HasCommitted, SparesFresh};
 ghost use Rattle.vs_pair.specs.Held.{KeepsHeld};
+ghost use Rattle.vs_pair.specs.declared.files.SwapFiles.{SwapFiles};
 ghost use Rattle.vs_pair.specs.declared.pair.SwapPair.{SwapPair};
 ghost use Rattle.vs_pair.specs.Steps.{IsFresh};
 
@@ -50,6 +51,7 @@ pub fn leaving()
         → Recovers names syncs older old → Recovers names syncs older new }
     ensures rises { (names : Names) (start old new : Disk) → SameAt (is_swap names) old new → Rises names start old → Rises names start new }
     ensures names { (names : Names) (old new : Disk) → SyncsNames old new → SameAt (is_swap names) old new }
+    ensures away { (files : SwapFiles) (old new : Disk) → SameAt (is_swap files.names) old new → away_of files new ≡ away_of files old }
 {}
 
 /// Pages that changed leave all that is said of the files, as long as each commit that changed a page is known.

@@ -1,7 +1,9 @@
 //! The two swap files of a session: made, synced in turn so that one of them stands at each moment, and removed.
 #![tactic(auto)]
 
+mod cache;
 mod ending;
+mod fetching;
 mod files;
 mod gate;
 mod head;
@@ -9,6 +11,7 @@ mod laws;
 mod lent;
 mod making;
 mod pair;
+mod sending;
 mod side;
 mod stale;
 mod start;

@@ -5,7 +5,8 @@ ghost use Rattle.vs_host.specs.File.{Leaves};
 ghost use Rattle.vs_host.specs.Disk.{names_of};
 ghost use Rattle.vs_disk.specs.Images.{FileHas};
 ghost use Rattle.vs_disk.specs.Names.{SameAt};
-ghost use Rattle.vs_pages.specs.Memory.{committed_of};
+ghost use Rattle.vs_pages.specs.Maps.{no_pages};
+ghost use Rattle.vs_pages.specs.Memory.{committed_of, AreBacked};
 ghost use Rattle.vs_disk.specs.Runs.{NoneFails};
 ghost use Rattle.vs_pair.specs.Acts.{Acts};
 ghost use Rattle.vs_pair.specs.Swap.{IsMade};
@@ -29,7 +30,7 @@ fn clear<F: Folder>(host: &mut F, name: &str) -> Result<(), Failed>
     Ok(())
 }
 
-// Makes the file with this page 0 and these pages.
+// Makes the file with this page 0 and these pages, none of which is away.
 pub(crate) fn make_file<F: Folder>(
     host: &mut F,
     temporary: &str,
@@ -40,6 +41,7 @@ pub(crate) fn make_file<F: Folder>(
     requires size { length first.now ≡ 4096 }
     requires differ { temporary.now ≢ name.now }
     requires absent { IsTrue F.tells.folder → IsAbsent name.now (F.scene host.old).folder }
+    requires here { IsTrue F.tells.folder → AreBacked no_pages pages.now }
     ensures acts { Acts F.tells (Makes temporary.now name.now (record { first = first.now; pages = committed_of pages.now }))
         (F.scene host.old) (F.scene host.new) }
     ensures made { OnOk result (IsTrue F.tells.folder
@@ -51,6 +53,6 @@ pub(crate) fn make_file<F: Folder>(
     clear(host, temporary)?;
     host.create_private(temporary)?;
     host.write_at(temporary, 0, OPEN)?;
-    write_pages(host, temporary, first, pages, &Written::NOTHING)?;
+    write_pages(host, temporary, name, first, pages, &Written::NOTHING)?;
     host.rename(temporary, name)
 }

@@ -2,11 +2,11 @@
 use Rattle.std.proofs.Common.{◌≡◌, ℕ, ◌+◌, ◌*◌, ◌≤◌, [], sym, ◌∙◌, ap, subst, arith}
 use Rattle.vs_host.specs.Disk.{Disk}
 use Rattle.vs_host.specs.World.{Tells, Scene}
-use Rattle.vs_disk.specs.Runs.{CallsAtMost}
 use Rattle.vs_pages.specs.Memory.{state_of}
 use Rattle.vs_pages.specs.declared.memory.MemPages.{MemPages}
 use Rattle.vs_edit.specs.Splices.{IsSmallSplice}
 use Rattle.vs_edit.specs.State.{WorksAtMost}
+use Rattle.vs_pair.specs.Acts as acts
 use Rattle.vs_pair.specs.Pair.{shown_in}
 use Rattle.vs_pair.specs.Stale.{IsBehind}
 use Rattle.vs_pair.specs.declared.written.Written.{Written}
@@ -65,6 +65,7 @@ behind_line tells request outcome before after was now written most line behind 
 
 -- ---- calls
 
-pub calls_after : (tells : Tells) (old synced : Scene) (pages : MemPages) (written : Written) (k : ℕ) → ((most : ℕ) → IsBehind pages written most → CallsAtMost tells old synced (6 + most))
-    → IsBehind pages written (37 * k) → CallsAtMost tells old synced (40 * k + 8)
-calls_after tells old synced pages written k calls behind = let within = calls (37 * k) behind in record { calls = λ told. omega (arith, within.calls told) }
+pub calls_after : (tells : Tells) (old synced : Scene) (pages : MemPages) (written : Written) (k : ℕ) → ((most : ℕ) → IsBehind pages written most → acts.WorksAtMost tells old synced (6 + most) most)
+    → IsBehind pages written (37 * k) → acts.WorksAtMost tells old synced (40 * k + 8) (40 * k + 2)
+calls_after tells old synced pages written k works behind =
+    let within = works (37 * k) behind in record { calls = λ told. omega (arith, within.calls told); reads = λ told. omega (arith, within.reads told) }

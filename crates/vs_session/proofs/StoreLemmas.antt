@@ -14,7 +14,7 @@ use Rattle.vs_host.specs.World as world
 use Rattle.vs_host.specs.World.{Scene}
 use Rattle.vs_pair.specs.declared.pair.SwapPair.{SwapPair}
 use Rattle.vs_pair.specs.Held.{KeepsHeld}
-use Rattle.vs_pair.specs.Lent.{IsReady, KeepsFiles}
+use Rattle.vs_pair.specs.Lent.{IsReady, IsStored, KeepsFiles}
 use Rattle.vs_pair.specs.Pair.{held_in, shown_in}
 use Rattle.vs_undo.specs.History.{History, IsHistory, FitsText}
 use Rattle.vs_undo.specs.declared.parts.Parts.{Parts}
@@ -121,6 +121,12 @@ keeps_back tells was now held old new left pair_is host_is is =
     let Q : Scene → Type 0 = λ s. KeepsFiles tells was held old s in
     subst P (sym pair_is) (subst Q (sym host_is) is)
 
+pub ready_back : (told : Type 0) (now held : SwapPair) (disk was : Disk) → now ≡ held → disk ≡ was → (told → IsReady held was) → told → IsReady now disk
+ready_back told now held disk was pair_is disk_is is given =
+    let P : SwapPair → Type 0 = λ p. IsReady p disk in
+    let D : Disk → Type 0 = λ d. IsReady held d in
+    subst P (sym pair_is) (subst D (sym disk_is) (is given))
+
 pub cause_back : {F : Type 0} (tells : world.Tells) (from : ℕ) (new left : Scene) → new ≡ left → HasOneCause from left.folder_faults (earlier_faults tells left) F
     → HasOneCause from new.folder_faults (earlier_faults tells new) F
 cause_back {F} tells from new left is cause = let P : Scene → Type 0 = λ s. HasOneCause from s.folder_faults (earlier_faults tells s) F in subst P (sym is) cause
@@ -128,20 +134,22 @@ cause_back {F} tells from new left is cause = let P : Scene → Type 0 = λ s. H
 -- ---- the text in the folder
 
 pub fits_ready : (paged : PagedText) (disk : Disk) (text : Text) (syncs : List Sync) → folder.Fits paged disk text syncs → IsReady paged.pair disk
-fits_ready paged disk text syncs fits = inr (fits.newest, fits.later, fits.past, fits.fit)
+fits_ready paged disk text syncs fits = record { stored = fits.stored; begun = inr (fits.newest, fits.later, fits.past, fits.fit) }
 
 -- the same swap files in the same folder
-pub fits_left : (tells : world.Tells) (old new : PagedText) (was now : Scene) (text after : Text) (syncs : List Sync) → KeepsFiles tells old.pair new.pair was now → folder.Fits old was.folder text syncs
-    → IsPaged (shown_in new.pair now.folder) new.tree after → folder.Fits new now.folder after syncs
-fits_left tells old new was now text after syncs keeps fits pages =
+pub fits_left : (tells : world.Tells) (old new : PagedText) (was now : Scene) (text after : Text) (syncs : List Sync) → IsTrue tells.folder → KeepsFiles tells old.pair new.pair was now
+    → IsReady new.pair now.folder → folder.Fits old was.folder text syncs → IsPaged (shown_in new.pair now.folder) new.tree after → folder.Fits new now.folder after syncs
+fits_left tells old new was now text after syncs told keeps ready fits pages =
     let same : now.folder ≡ was.folder = ap (λ (s : Scene). s.folder) keeps.frame in
-    let held : KeepsHeld (held_in old.pair was.folder) (held_in new.pair was.folder) = subst (λ (d : Disk). KeepsHeld (held_in old.pair was.folder) (held_in new.pair d)) same keeps.held in
+    let held : KeepsHeld (held_in old.pair was.folder) (held_in new.pair was.folder) = subst (λ (d : Disk). KeepsHeld (held_in old.pair was.folder) (held_in new.pair d)) same (keeps.held told) in
     let paged : IsPaged (shown_in new.pair was.folder) new.tree after = subst (λ (d : Disk). IsPaged (shown_in new.pair d) new.tree after) same pages in
-    subst (λ (d : Disk). folder.Fits new d after syncs) (sym same) (fits_changed old new was.folder text after syncs keeps.files held paged fits)
+    let stored : IsStored new.pair was.folder = subst (λ (d : Disk). IsStored new.pair d) same ready.stored in
+    subst (λ (d : Disk). folder.Fits new d after syncs) (sym same) (fits_changed old new was.folder text after syncs keeps.files held paged stored fits)
 
-pub state_left : (tells : world.Tells) (old new : PagedText) (undo left : Parts) (was now : Scene) (state after : State) (syncs : List Sync) → KeepsFiles tells old.pair new.pair was now
-    → FitsState old undo was.folder state syncs → Stands new.pair now.folder new.tree left after → FitsState new left now.folder after syncs
-state_left tells old new undo left was now state after syncs keeps fits stands = record { text = fits_left tells old new was now state.text after.text syncs keeps fits.text stands.text; history = stands.history }
+pub state_left : (tells : world.Tells) (old new : PagedText) (undo left : Parts) (was now : Scene) (state after : State) (syncs : List Sync) → IsTrue tells.folder → KeepsFiles tells old.pair new.pair was now
+    → IsReady new.pair now.folder → FitsState old undo was.folder state syncs → Stands new.pair now.folder new.tree left after → FitsState new left now.folder after syncs
+state_left tells old new undo left was now state after syncs told keeps ready fits stands =
+    record { text = fits_left tells old new was now state.text after.text syncs told keeps ready fits.text stands.text; history = stands.history }
 
 -- what was committed is the present text still, where a store kept both
 pub kept_same : (tells : Bool) (shown left : PageState) (tree after : LineTree) → IsBounded tree → (IsTrue tells → (text : Text) × IsPaged shown tree text)

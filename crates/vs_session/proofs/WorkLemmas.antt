@@ -4,8 +4,9 @@ use Rattle.std.proofs.lemmas.Bool.{false≢true}
 use Rattle.vs_host.specs.Disk.{Disk}
 use Rattle.vs_host.specs.World.{Tells}
 use Rattle.vs_pages.specs.declared.memory.MemPages.{MemPages}
-use Rattle.vs_tree.specs.Texts.{shown_work}
+use Rattle.vs_tree.specs.Texts.{shown_work, worked_by}
 use Rattle.vs_tree.specs.declared.tree.LineTree.{LineTree}
+use Rattle.vs_pair.specs.Pair.{shown_in}
 use Rattle.vs_pair.specs.declared.pair.SwapPair.{SwapPair}
 use Rattle.vs_excmd.specs.declared.request.Request.{Request}
 use Rattle.vs_machine.specs.Answers.{WorksAs, meaning_at}
@@ -51,10 +52,14 @@ step_unworked tells request (step.Answer mark reply) before after was same = λ 
     works_nothing mark.outcome state.machine (meaning_at state.machine instruction) (most_in before.text.tree) (work_in before.text.pair.pages) (work_in after.text.pair.pages) (same told)
 step_unworked tells request step.Quit before after was same = same
 
--- a command after a sync, which works no page
-pub works_synced : (outcome : Outcome) (state : State) (meaning : Meaning) (before mid after : Session) → mid.text.pair.pages ≡ before.text.pair.pages → mid.text.tree ≡ before.text.tree
+-- a sync works no page
+pub synced_work : (before after : SwapPair) (was now : Disk) → shown_in after now ≡ shown_in before was → work_in after.pages ≡ work_in before.pages
+synced_work before after was now same = ap worked_by same
+
+-- a command after a sync
+pub works_synced : (outcome : Outcome) (state : State) (meaning : Meaning) (before mid after : Session) → work_in mid.text.pair.pages ≡ work_in before.text.pair.pages → mid.text.tree ≡ before.text.tree
     → WorksBy outcome state meaning (most_in mid.text.tree) (work_in mid.text.pair.pages) (work_in after.text.pair.pages)
     → WorksBy outcome state meaning (most_in before.text.tree) (work_in before.text.pair.pages) (work_in after.text.pair.pages)
-works_synced outcome state meaning before mid after pages tree works =
+works_synced outcome state meaning before mid after work tree works =
     subst (λ (t : LineTree). WorksBy outcome state meaning (most_in t) (work_in before.text.pair.pages) (work_in after.text.pair.pages)) tree
-    (subst (λ (p : MemPages). WorksBy outcome state meaning (most_in mid.text.tree) (work_in p) (work_in after.text.pair.pages)) pages works)
+    (subst (λ (w : ℕ → ℕ). WorksBy outcome state meaning (most_in mid.text.tree) w (work_in after.text.pair.pages)) work works)

@@ -25,13 +25,14 @@ pub record IsLent (tells : Tells) (pair : SwapPair) (tree : LineTree) (disk : Di
   pub ready : IsTrue tells.folder → IsReady pair disk
   pub paged : IsTrue tells.folder → (text : Text) × IsPaged (shown_in pair disk) tree text
 
--- The pages have the text that they had, and the folder was only looked at. Its faults have risen where a call failed, the last
--- one.
+-- The pages have the text that they had, the pair is ready, and the folder was only looked at. Its faults have risen where a call failed,
+-- the last one.
 pub record KeepsLent (tells : Tells) (Failed : Type 0) (pair_old pair_new : SwapPair) (tree_old tree_new : LineTree) (old new : Scene) : Type 0 where
   pub paged : IsTrue tells.folder → (text : Text) → IsPaged (shown_in pair_old old.folder) tree_old text
       → IsPaged (shown_in pair_new new.folder) tree_new text
   pub bounded : IsBounded tree_new
   pub lines : tree_new.present.lines ≡ tree_old.present.lines
+  pub ready : IsTrue tells.folder → IsReady pair_new new.folder
   pub keeps : KeepsFiles tells pair_old pair_new old new
   pub cause : HasOneCause old.folder_faults new.folder_faults (earlier_faults tells new) Failed
 
@@ -42,11 +43,12 @@ pub record IsLentWithUndo (tells : Tells) (pair : SwapPair) (tree : LineTree) (u
   pub ready : IsTrue tells.folder → IsReady pair disk
   pub stands : IsTrue tells.folder → (state : State) × Stands pair disk tree undo state
 
--- The numbers of the tree are within their bounds, the undo tree fits the number of lines, and the folder was only looked at. Its
--- faults have risen where a call failed, the last one.
+-- The numbers of the tree are within their bounds, the undo tree fits the number of lines, the pair is ready, and the folder was only looked
+-- at. Its faults have risen where a call failed, the last one.
 pub record KeepsLentWithUndo (tells : Tells) (Failed : Type 0) (pair_old pair_new : SwapPair) (tree : LineTree) (undo : Parts) (old new : Scene) : Type 0 where
   pub bounded : IsBounded tree
   pub counts : FitsCount undo (max 1 tree.present.lines)
+  pub ready : IsTrue tells.folder → IsReady pair_new new.folder
   pub keeps : KeepsFiles tells pair_old pair_new old new
   pub cause : HasOneCause old.folder_faults new.folder_faults (earlier_faults tells new) Failed
 

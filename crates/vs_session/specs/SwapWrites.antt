@@ -2,7 +2,10 @@
 use Rattle.std.specs.Prelude.{◌≡◌, ◌+◌, ℕ, Bool, true, false, List, IsTrue}
 use Rattle.vs_host.specs.Disk.{Disk}
 use Rattle.vs_host.specs.World.{Tells, Scene}
-use Rattle.vs_disk.specs.Runs.{CallsAtMost}
+use Rattle.vs_disk.specs.Runs.{Looks}
+use Rattle.vs_pages.specs.Memory.{commits_of}
+use Rattle.vs_pair.specs.Acts.{JustReads, WorksAtMost}
+use Rattle.vs_pair.specs.Pair.{shown_in}
 use Rattle.vs_pair.specs.Stale.{IsBehind}
 use Rattle.vs_pair.specs.declared.pair.SwapPair.{SwapPair}
 use Rattle.vs_edit.specs.Splices.{IsSmallSplice}
@@ -22,18 +25,20 @@ use Rattle.vs_session.specs.Session.{SessionState, begins_after, is_write}
 use Rattle.vs_session.specs.Fits.{Fits, IsFault}
 use Rattle.vs_session.specs.Work.{WorksRequest}
 
--- A command began with a sync, which made at most six calls and one for each page that its file was behind. It was acknowledged, or the
--- answer tells of a fault. Nothing more was called where the command does not write the edited file.
+-- A command began with a sync, which made at most six calls and one for each page that its file was behind, beside at most one for each such
+-- page that reads bytes of a file. It was acknowledged, or the answer tells of a fault, and it left what the pages show. After it, where the
+-- command does not write the edited file, only bytes of files were read.
 pub record SyncsFirst (tells : Tells) (writes : Bool) (reply : Step) (before after : Session) (old new : Scene) : Type 0 where
   pub synced : Scene
   pub acknowledged : Bool
-  pub calls : (most : ℕ) → IsBehind before.text.pair.pages before.text.pair.files.older_has most → CallsAtMost tells old synced (6 + most)
+  pub works : (most : ℕ) → IsBehind before.text.pair.pages before.text.pair.files.older_has most → WorksAtMost tells old synced (6 + most) most
   pub between : SwapPair
-  pub pages : between.pages ≡ before.text.pair.pages
+  pub shown : IsTrue tells.folder → shown_in between synced.folder ≡ shown_in before.text.pair old.folder
+  pub commits : commits_of between.pages ≡ commits_of before.text.pair.pages
   pub turns : TurnsFiles acknowledged before.text.pair between
   pub known : KeepsKnown between after.text.pair
   pub failed : acknowledged ≡ false → IsFault reply
-  pub rest : writes ≡ false → IsTrue tells.folder → new.trace ≡ synced.trace
+  pub rest : writes ≡ false → IsTrue tells.folder → Looks synced new × JustReads synced new
 
 -- Where a command does not begin with a sync, what is known of the swap files stays.
 abbrev pub SyncsWhere : Bool → Tells → Bool → Step → Session → Session → Scene → Scene → Type 0

@@ -2,9 +2,9 @@
 ghost use Rattle.std.specs.Prelude.{◌≡◌, ◌+◌, ◌*◌, ℕ, true};
 ghost use Rattle.vs_host.specs.Disk.{Disk};
 ghost use Rattle.vs_host.specs.World.{Scene, Tells};
-ghost use Rattle.vs_disk.specs.Runs.{CallsAtMost};
 ghost use Rattle.vs_pages.specs.Memory.{state_of};
 ghost use Rattle.vs_pages.specs.declared.memory.MemPages.{MemPages};
+ghost use Rattle.vs_pair.specs.Acts.{WorksAtMost};
 ghost use Rattle.vs_pair.specs.Stale.{IsBehind, IsCounted};
 ghost use Rattle.vs_pair.specs.declared.pair.SwapPair.{SwapPair};
 ghost use Rattle.vs_pair.specs.declared.written.Written.{Written};
@@ -18,7 +18,7 @@ ghost use Rattle.vs_session.specs.Work.{work_in};
 
 /// How far a swap file is behind the pages: by nothing after a sync of it that was acknowledged, as many as before where no page is
 /// worked, and by at most 37 pages more after a change of one line. So `k` changes of a line later its next sync makes at most
-/// `40 * k + 8` calls.
+/// `40 * k + 8` calls beside those that read bytes of a file, and at most `40 * k + 2` of those.
 pub fn falling_behind()
     ensures synced { (before after : SwapPair) → IsCounted after.pages → TurnsFiles true before after → IsBehind after.pages after.files.newer_has 0 }
     ensures unworked { (old new : MemPages) (written : Written) (most : ℕ) → IsIdle (state_of old) → IsIdle (state_of new) → work_in new ≡ work_in old
@@ -27,6 +27,6 @@ pub fn falling_behind()
         → ChangesLine tells request outcome before after was now
         → IsBehind before.text.pair.pages written most → IsBehind after.text.pair.pages written (most + 37) }
     ensures calls { (tells : Tells) (old synced : Scene) (pages : MemPages) (written : Written) (k : ℕ)
-        → ((most : ℕ) → IsBehind pages written most → CallsAtMost tells old synced (6 + most))
-        → IsBehind pages written (37 * k) → CallsAtMost tells old synced (40 * k + 8) }
+        → ((most : ℕ) → IsBehind pages written most → WorksAtMost tells old synced (6 + most) most)
+        → IsBehind pages written (37 * k) → WorksAtMost tells old synced (40 * k + 8) (40 * k + 2) }
 {}

@@ -1,9 +1,10 @@
 // One step of a session.
 ghost use Rattle.std.specs.Prelude.{◌≡◌, ◌≢◌, ◌+◌, ◌<◌, ◌≤◌, ◌^◌, ◌∷◌, ℕ, List, None, true, false, IsErr, IsTrue, OnErr, OnOk, is_ok, length};
 ghost use Rattle.vs_faults.specs.Faults.{HasCause};
-ghost use Rattle.vs_disk.specs.Runs.{CallsAtMost, NoneFails};
-ghost use Rattle.vs_pair.specs.Acts.{Acts};
-ghost use Rattle.vs_pair.specs.Pair.{Rises};
+ghost use Rattle.vs_disk.specs.Runs.{NoneFails};
+ghost use Rattle.vs_pages.specs.Memory.{commits_of};
+ghost use Rattle.vs_pair.specs.Acts.{Acts, JustReads, WorksAtMost};
+ghost use Rattle.vs_pair.specs.Pair.{Rises, shown_in};
 ghost use Rattle.vs_pair.specs.Stale.{IsBehind};
 ghost use Rattle.vs_exparse.specs.Command.{command_of, result_of};
 ghost use Rattle.vs_excmd.specs.Request.{Instruction, IsFormed, IsRequest};
@@ -153,9 +154,11 @@ impl Session {
         ensures file { SameFile self.old self.new }
         ensures generation { generation_of self.new ≡ generation_of self.old + 1 }
         ensures behind { (most : ℕ) → IsBehind self.old.text.pair.pages self.old.text.pair.files.older_has most
-            → CallsAtMost F.tells (F.scene host.old) (F.scene host.new) (6 + most) }
+            → WorksAtMost F.tells (F.scene host.old) (F.scene host.new) (6 + most) most }
         ensures turns { TurnsFiles (is_ok result) self.old.text.pair self.new.text.pair }
-        ensures pages { self.new.text.pair.pages ≡ self.old.text.pair.pages }
+        ensures shown { IsTrue F.tells.folder
+            → shown_in self.new.text.pair (F.scene host.new).folder ≡ shown_in self.old.text.pair (F.scene host.old).folder }
+        ensures commits { commits_of self.new.text.pair.pages ≡ commits_of self.old.text.pair.pages }
         ensures tree { self.new.text.tree ≡ self.old.text.tree }
         ensures undo { FitsUndo self.old → FitsUndo self.new }
         ensures none { OnOk result (NoneFails F.tells (F.scene host.old) (F.scene host.new)) }
@@ -185,7 +188,7 @@ impl Session {
         ensures fits { CarriesRequest F.tells request.now (record { outcome = result.0; at = at }) self.old self.new
             (F.scene host.old).folder (F.scene host.new).folder }
         ensures kept { GoesOnReading F.tells (is_fault result.0 ≡ true) self.old self.new (F.scene host.old) (F.scene host.new) }
-        ensures still { IsTrue F.tells.folder → F.scene host.new ≡ F.scene host.old }
+        ensures reads { IsTrue F.tells.folder → JustReads (F.scene host.old) (F.scene host.new) }
         ensures works { WorksRequest F.tells request.now result.0 self.old self.new (F.scene host.old).folder }
         ensures stored { result.0 ≢ Outcome.NoUndo }
     {
@@ -236,7 +239,7 @@ impl Session {
         ensures fits { CarriesRequest F.tells request.now (record { outcome = result.0; at = at }) self.old self.new
             (F.scene host.old).folder (F.scene host.new).folder }
         ensures kept { GoesOnReading F.tells (is_fault result.0 ≡ true) self.old self.new (F.scene host.old) (F.scene host.new) }
-        ensures still { IsTrue F.tells.folder → F.scene host.new ≡ F.scene host.old }
+        ensures reads { IsTrue F.tells.folder → JustReads (F.scene host.old) (F.scene host.new) }
         ensures works { WorksRequest F.tells request.now result.0 self.old self.new (F.scene host.old).folder }
         ensures stored { result.0 ≢ Outcome.NoUndo }
     {

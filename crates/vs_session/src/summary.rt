@@ -2,10 +2,13 @@
 ghost use Rattle.std.specs.Prelude.{◌≡◌, IfOk, IsErrOf, IsTrue, List};
 ghost use Rattle.vs_faults.specs.Faults.{HasCause};
 ghost use Rattle.vs_host.specs.World.{ReadsFolder};
-ghost use Rattle.vs_disk.specs.Runs.{FailsLast, Looks};
+ghost use Rattle.vs_disk.specs.Faults.{NeverFalls};
+ghost use Rattle.vs_disk.specs.Runs.{Looks};
+ghost use Rattle.vs_backup.specs.Desks.{StopsAtFault};
 ghost use Rattle.vs_safety.specs.Texts.{Sync, Text};
 ghost use Rattle.vs_ubind.specs.Digest.{digest_of};
 ghost use Rattle.vs_paged.specs.Fits as paged;
+ghost use Rattle.vs_pair.specs.Acts.{JustReads};
 ghost use Rattle.vs_pair.specs.Pair.{shown_in};
 ghost use Rattle.vs_paged.specs.Pages.{IsPaged};
 ghost use Rattle.vs_session.specs.Calls.{FitsFolder, KeepsState};
@@ -84,8 +87,9 @@ impl Session {
         ensures file { SameFile self.old self.new }
         ensures generation { generation_of self.new ≡ generation_of self.old }
         ensures looks { IsTrue F.tells.folder → Looks (F.scene host.old) (F.scene host.new) }
-        ensures last { IsTrue F.tells.folder → FailsLast (F.scene host.old) (F.scene host.new) }
-        ensures still { IsTrue F.tells.folder → F.scene host.new ≡ F.scene host.old }
+        ensures reads { IsTrue F.tells.folder → JustReads (F.scene host.old) (F.scene host.new) }
+        ensures counts { IsTrue F.tells.folder → NeverFalls (F.scene host.old) (F.scene host.new) }
+        ensures stops { StopsAtFault F.tells (IsErrOf result StoreErr.Failed) (F.scene host.old) (F.scene host.new) }
         ensures frame { ReadsFolder (F.scene host.old) (F.scene host.new) }
         ensures cause { HasCause (F.scene host.old).folder_faults (F.scene host.new).folder_faults (IsErrOf result StoreErr.Failed) }
     {

@@ -41,6 +41,8 @@ impl<F: Folder> World for TextDesk<F> {
     ghost is_folder = { λ desk told. F.is_folder desk.folder told };
 
     ghost newest = { λ desk told. F.newest desk.folder told };
+
+    ghost counted = { λ desk told. F.counted desk.folder told };
 }
 
 impl<F: Folder> Desk for TextDesk<F> {

@@ -72,7 +72,13 @@ pub(crate) fn write_to<F: Folder>(
     requires { AreSound desk.old.text }
 {
     let names = names_of(alloc, name)?;
-    Ok(write_out(alloc, desk, &names, options))
+    Ok(write_out(
+        alloc,
+        desk,
+        names.file.as_str(),
+        names.file_new.as_str(),
+        options,
+    ))
 }
 
 /// What an image has under a name; `-` where it has no file.

@@ -37,6 +37,8 @@ impl World for Source {
     ghost is_folder = { λ source told. never told };
 
     ghost newest = { λ source told. never told };
+
+    ghost counted = { λ source told. never told };
 }
 
 /// The bytes from a place on, where there are any.

@@ -1,7 +1,7 @@
 // A host in memory with one who watches its calls.
 ghost use Rattle.std.specs.Prelude.{◌≡◌, ◌<◌, ◌≤◌, true};
 ghost use Rattle.vs_memory.specs.Memory.{scene_of, IsPlayed};
-ghost use Rattle.vs_memory.specs.Validity.{is_folder, newest};
+ghost use Rattle.vs_memory.specs.Validity.{is_folder, newest, most_counted};
 
 use vs_host::{Clock, Failed, Folder, Host, Out, Script, World};
 use vs_memory::MemHost;
@@ -52,6 +52,8 @@ impl<W: Watch + Drop> World for Watched<W> {
     ghost is_folder = { λ s told. is_folder s.inner.base s.inner.log };
 
     ghost newest = { λ s told. newest s.inner };
+
+    ghost counted = { λ s told. most_counted s.inner };
 }
 
 impl<W: Watch + Drop> Script for Watched<W> {

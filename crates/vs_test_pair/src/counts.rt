@@ -21,7 +21,7 @@ const PAGES: usize = 63;
 pub(crate) fn start_pages<F: Folder>(alloc: Global, host: &mut F) -> Result<Option<SwapPair>, Fail>
     requires fresh { IsTrue F.tells.folder → IsFresh (names_of_file (codes "f")) (F.scene host.old).folder }
     ensures fits { IfOk result (λ found. IfSome found (λ pair. IsTrue F.tells.folder → Fits pair (F.scene host.new).folder)) }
-    ensures there { IfOk result (λ found. IfSome found (λ pair. HasText pair)) }
+    ensures there { IfOk result (λ found. IfSome found (λ pair. IsTrue F.tells.folder → HasText pair (F.scene host.new).folder)) }
     ensures generation { IfOk result (λ found. IfSome found (λ pair. pair.files.generation ≡ 2)) }
 {
     let mut pair = SwapPair::new(alloc, NAME)?;

@@ -1,18 +1,16 @@
 // One life of a pair: it is started, synced and ended. The text is the byte that fills page 2.
 ghost use Rattle.std.specs.Prelude.{◌≡◌, ◌+◌, ◌<◌, ◌≤◌, ◌^◌, List, Some, IfOk, IfSome, OnOk, IsSome, IsTrue, codes};
 ghost use Rattle.vs_host.specs.Names.{names_of_file};
-ghost use Rattle.vs_pages.specs.Maps.{first_pages};
-ghost use Rattle.vs_pages.specs.Memory.{present_of};
-ghost use Rattle.vs_pair.specs.Held.{KeepsHeld, held_of};
+ghost use Rattle.vs_pages.specs.Maps.{first_pages, no_pages, pages_at};
+ghost use Rattle.vs_pages.specs.Memory.{present_of, AreBacked};
 ghost use Rattle.vs_pair.specs.Swap.{IsFormatNumber, Synced};
 ghost use Rattle.vs_pair.specs.Steps.{IsFresh};
-ghost use Rattle.vs_pair.specs.Lent.{IsReady};
 ghost use Rattle.vs_test_pair.specs.Lives.{HasText, Fits};
 
 use std::alloc::Global;
 use std::test::Fail;
 use vs_host::Folder;
-use vs_pages::{PAGE_SIZE, Pages};
+use vs_pages::{MemPages, PAGE_SIZE, Pages};
 use vs_pair::{Head, PairPages, SwapPair};
 use vs_tree::LineTree;
 
@@ -27,24 +25,15 @@ pub struct Life {
     pub ended: bool,
 }
 
-// Makes this the text, and commits it.
-fn put_text<F: Folder>(
-    alloc: Global,
-    pair: &mut SwapPair,
-    host: &mut F,
-    text: u8,
-) -> Result<(), Fail>
-    requires ready { IsTrue F.tells.folder → IsReady pair.old (F.scene host.old).folder }
-    requires there { IsTrue F.tells.folder → HasText pair.old }
-    ensures files { OnOk result (pair.new.files ≡ pair.old.files) }
-    ensures held { OnOk result (KeepsHeld (held_of pair.old.pages) (held_of pair.new.pages)) }
-    ensures there { OnOk result (IsTrue F.tells.folder → HasText pair.new) }
-    ensures folder { OnOk result ((F.scene host.new).folder ≡ (F.scene host.old).folder) }
+// Makes this the text of pages that are in memory, and commits it.
+fn fill_first(alloc: Global, pages: &mut MemPages, text: u8) -> Result<(), Fail>
+    requires there { IsSome (pages_at (present_of pages.old) 2 1) }
+    ensures there { OnOk result (IsSome (pages_at (present_of pages.new) 2 1)) }
+    ensures here { OnOk result (AreBacked no_pages pages.old → AreBacked no_pages pages.new) }
 {
     let page = vec![in alloc; text; PAGE_SIZE]?;
-    let mut store = PairPages { pair, host };
-    store.touch(alloc, 2, 1, &page)?;
-    store.commit();
+    pages.touch(alloc, 2, 1, &page)?;
+    pages.commit();
     Ok(())
 }
 
@@ -52,11 +41,11 @@ fn put_text<F: Folder>(
 fn start_text<F: Folder>(alloc: Global, host: &mut F, text: u8) -> Result<Option<SwapPair>, Fail>
     requires fresh { IsTrue F.tells.folder → IsFresh (names_of_file (codes "f")) (F.scene host.old).folder }
     ensures fits { IfOk result (λ found. IfSome found (λ pair. IsTrue F.tells.folder → Fits pair (F.scene host.new).folder)) }
-    ensures there { IfOk result (λ found. IfSome found (λ pair. IsTrue F.tells.folder → HasText pair)) }
+    ensures there { IfOk result (λ found. IfSome found (λ pair. IsTrue F.tells.folder → HasText pair (F.scene host.new).folder)) }
     ensures generation { IfOk result (λ found. IfSome found (λ pair. pair.files.generation ≡ 2)) }
 {
     let mut pair = SwapPair::new(alloc, NAME)?;
-    put_text(alloc, &mut pair, host, text)?;
+    fill_first(alloc, &mut pair.pages, text)?;
     let head = Head {
         dirty: false,
         empty: false,
@@ -68,6 +57,27 @@ fn start_text<F: Folder>(alloc: Global, host: &mut F, text: u8) -> Result<Option
     }
 }
 
+// Makes this the text of a pair that was started, and commits it.
+fn put_text<F: Folder>(
+    alloc: Global,
+    pair: &mut SwapPair,
+    host: &mut F,
+    text: u8,
+) -> Result<(), Fail>
+    requires fits { IsTrue F.tells.folder → Fits pair.old (F.scene host.old).folder }
+    requires there { IsTrue F.tells.folder → HasText pair.old (F.scene host.old).folder }
+    requires started { 2 ≤ pair.old.files.generation }
+    ensures files { OnOk result (pair.new.files ≡ pair.old.files) }
+    ensures fits { OnOk result (IsTrue F.tells.folder → Fits pair.new (F.scene host.new).folder) }
+    ensures there { OnOk result (IsTrue F.tells.folder → HasText pair.new (F.scene host.new).folder) }
+{
+    let page = vec![in alloc; text; PAGE_SIZE]?;
+    let mut store = PairPages { pair, host };
+    store.touch(alloc, 2, 1, &page)?;
+    store.commit();
+    Ok(())
+}
+
 // Syncs this text, and says whether that succeeded.
 pub(crate) fn sync_text<F: Folder>(
     alloc: Global,
@@ -76,11 +86,11 @@ pub(crate) fn sync_text<F: Folder>(
     text: u8,
 ) -> Result<bool, Fail>
     requires fits { IsTrue F.tells.folder → Fits pair.old (F.scene host.old).folder }
-    requires there { IsTrue F.tells.folder → HasText pair.old }
+    requires there { IsTrue F.tells.folder → HasText pair.old (F.scene host.old).folder }
     requires started { 2 ≤ pair.old.files.generation }
     requires room { pair.old.files.generation < 2 ^ 63 }
     ensures fits { OnOk result (IsTrue F.tells.folder → Fits pair.new (F.scene host.new).folder) }
-    ensures there { OnOk result (IsTrue F.tells.folder → HasText pair.new) }
+    ensures there { OnOk result (IsTrue F.tells.folder → HasText pair.new (F.scene host.new).folder) }
     ensures generation { OnOk result (pair.new.files.generation ≡ pair.old.files.generation + 1) }
 {
     put_text(alloc, pair, host, text)?;
@@ -116,15 +126,12 @@ pub(crate) fn live<F: Folder>(alloc: Global, host: &mut F) -> Result<Life, Fail>
     })
 }
 
-// Makes the text without lines the text.
-fn put_tree<F: Folder>(alloc: Global, pair: &mut SwapPair, host: &mut F) -> Result<(), Fail>
-    requires ready { IsTrue F.tells.folder → IsReady pair.old (F.scene host.old).folder }
-    requires present { present_of pair.old.pages ≡ first_pages }
-    ensures files { OnOk result (pair.new.files ≡ pair.old.files) }
-    ensures folder { OnOk result ((F.scene host.new).folder ≡ (F.scene host.old).folder) }
+// Makes the text without lines the text of pages that are in memory.
+fn put_tree(alloc: Global, pages: &mut MemPages) -> Result<(), Fail>
+    requires present { present_of pages.old ≡ first_pages }
+    ensures here { OnOk result (AreBacked no_pages pages.old → AreBacked no_pages pages.new) }
 {
-    let mut store = PairPages { pair, host };
-    LineTree::new(alloc, &mut store)?;
+    LineTree::new(alloc, pages)?;
     Ok(())
 }
 
@@ -134,7 +141,7 @@ pub(crate) fn start_empty<F: Folder>(alloc: Global, host: &mut F, format: u8) ->
     requires fresh { IsTrue F.tells.folder → IsFresh (names_of_file (codes "f")) (F.scene host.old).folder }
 {
     let mut pair = SwapPair::new(alloc, NAME)?;
-    put_tree(alloc, &mut pair, host)?;
+    put_tree(alloc, &mut pair.pages)?;
     let head = Head {
         dirty: false,
         empty: true,

@@ -70,6 +70,8 @@ impl World for Comments {
     ghost is_folder = { λ host told. never told };
 
     ghost newest = { λ host told. never told };
+
+    ghost counted = { λ host told. never told };
 }
 
 /// Copies the front of some bytes, and answers how many.

@@ -18,7 +18,7 @@ use Rattle.vs_session.specs.Fits.{HasSwap, Opens}
 use Rattle.vs_top.specs.Run.{TellsRun, Did, KeepsMarks, AnswersNone, AnswersAll, AnswersTaken, AnswersLimit, LacksAtOnce, LacksMemory, IsCutShort, IsCutLast}
 use Rattle.vs_top.specs.Run.{FailsToClose, KeepsSwap, Counts, counts_of, OnlyFolder, FaultHasCause, FileFits, IsBarred, IsTimed, opened_file, ran_of}
 use Rattle.vs_top.specs.Calls.{CallsAsMarked}
-use Rattle.vs_top.specs.Stress.{TellsStress, HasStressed, IsStressing, IsStressSafe, StressEnds, WritesThen}
+use Rattle.vs_top.specs.Stress.{TellsStress, FailsToSum, HasStressed, IsStressing, IsStressSafe, StressEnds, SumsThen, WritesThen}
 use Rattle.vs_top.specs.Stress.{stress_line, stress_name, stress_document, stress_turns}
 use Rattle.vs_top.specs.StressCalls.{HasRunTo, StressCalls}
 use Rattle.vs_top.specs.declared.ending.Ending.{Ending}
@@ -99,7 +99,7 @@ script_fault = record (after_opening (λ file old new marks did. AnswersTaken fi
 abbrev pub output_fault : Row
 output_fault = record (after_opening (λ file old new marks did. IsCutShort file old new did ⊎ IsCutLast file old new did)
     (λ RanTo count old new marks did.
-    (n : ℕ) × HasStressed RanTo (Writes n (stress_line count old did.past)) count old new did (take n (stress_line count old did.past)))) {
+    (n : ℕ) × HasStressed RanTo (SumsThen (Writes n (stress_line count old did.past))) count old new did (take n (stress_line count old did.past)))) {
       last = RoseLast output_count;
       counts = λ old new. HasRisen old.output new.output × OnlyFolder old (record new { output = old.output });
     }
@@ -112,8 +112,8 @@ failed_opening name old new marks = AnswersNone old new marks × Opens name old.
 abbrev pub folder_fault : Row
 folder_fault = record (after_opening (λ file old new marks did. failed_opening file.name old new marks ⊎ FailsToClose file old new did)
     (λ RanTo count old new marks did.
-    failed_opening stress_name old new marks ⊎ HasStressed RanTo (λ ended now. now ≡ ended) count old new did []
-    ⊎ HasStressed RanTo (WritesThen FailsLast (stress_line count old did.past)) count old new did (stress_line count old did.past))) {
+    failed_opening stress_name old new marks ⊎ HasStressed RanTo FailsToSum count old new did []
+    ⊎ HasStressed RanTo (SumsThen (WritesThen FailsLast (stress_line count old did.past))) count old new did (stress_line count old did.past))) {
       left = λ file old new did. (did.closing ≡ NotBegun) ⊎ KeepsSwap file did new.folder;
       last = RoseLast folder_count;
       counts = λ old new. HasRisen old.folder new.folder × OnlyFolder old new;

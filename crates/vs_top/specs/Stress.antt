@@ -5,8 +5,9 @@ use Rattle.vs_host.specs.Trace.{Snapshot, Each, GoesOn}
 use Rattle.vs_host.specs.World.{Tells, Scene, content_of}
 use Rattle.vs_host.specs.declared.names.Names.{Names}
 use Rattle.vs_disk.specs.Names.{SameAt}
-use Rattle.vs_disk.specs.Runs.{Inside, Looks, Quiet}
+use Rattle.vs_disk.specs.Runs.{FailsLast, Inside, Looks, Quiet}
 use Rattle.vs_text.specs.Documents.{Document}
+use Rattle.vs_pair.specs.Acts.{JustReads}
 use Rattle.vs_pair.specs.Pair.{is_foreign}
 use Rattle.vs_pair.specs.Steps.{BothMoved, IsFresh}
 use Rattle.vs_excmd.specs.Request.{Instruction}
@@ -61,6 +62,23 @@ stress_line count old past =
     let summary = summary_of (stress_state old past) (syncs_of (stress_history old past)) in
     summary_line count summary.lines summary.changes summary.syncs summary.digest
 
+-- At most bytes of files were read, as the summary asks for the text, and folder and output were left as they were.
+pub record ReadsText (ended new : Scene) : Type 0 where
+  pub looks : Looks ended new
+  pub reads : JustReads ended new
+
+-- The text was read for the summary, and no call failed. Of the calls after that P holds.
+pub record SumsThen (P : Scene → Scene → Type 0) (ended new : Scene) : Type 0 where
+  pub summed : Scene
+  pub text : ReadsText ended summed
+  pub none : Quiet ended summed
+  pub after : P summed new
+
+-- The text was read for the summary, and the last call failed.
+pub record FailsToSum (ended new : Scene) : Type 0 where
+  pub text : ReadsText ended new
+  pub last : FailsLast ended new
+
 -- The next calls are a write of the whole line, and those that remove the swap files, of which P holds.
 pub record WritesThen (P : Scene → Scene → Type 0) (line : List ℕ) (ended new : Scene) : Type 0 where
   pub told : Scene
@@ -81,7 +99,7 @@ pub record HasStressed (RanTo : Scene → Type 0) (Closes : Scene → Scene → 
 
 -- The whole line was written, and the swap files were removed. Of that no call failed.
 pub record StressEnds (RanTo : Scene → Type 0) (errors : Bool) (count : ℕ) (old new : Scene) (did : Did) : Type 0 where
-  pub stressed : HasStressed RanTo (WritesThen Quiet (stress_line count old did.past)) count old new did (stress_line count old did.past)
+  pub stressed : HasStressed RanTo (SumsThen (WritesThen Quiet (stress_line count old did.past))) count old new did (stress_line count old did.past)
   pub errors_are : any_error (opened_file old stress_name).state did.past ≡ errors
   pub gone : IsFresh (names_of_file stress_name) new.folder
 
@@ -91,14 +109,26 @@ pub record IsUnopened (old new : Scene) (did : Did) : Type 0 where
   pub looks : Looks old new
   pub quiet : new.folder_faults ≡ old.folder_faults
 
--- The first commands were answered, no call was made since then, and nothing was written. Some session fits the folder, so that both swap
--- files are there; or the file was not opened. No file stays under a name under which one was made.
+-- Since the last command no call was made; or none is left, the text was read for the summary, and no call failed.
+abbrev pub SumsAtMost : List Instruction → Scene → Scene → Type 0
+SumsAtMost rest ended new = (new ≡ ended) ⊎ ((rest ≡ []) × ReadsText ended new × Quiet ended new)
+
+-- The first commands led to a scene of which `RanTo` holds, and since then at most the text was read. Some session fits the folder, so that
+-- both swap files are there.
+pub record HasStopped (RanTo : Scene → Type 0) (rest : List Instruction) (old new : Scene) (did : Did) : Type 0 where
+  pub ended : Scene
+  pub ran : RanTo ended
+  pub since : SumsAtMost rest ended new
+  pub swap : KeepsSwap (opened_file old stress_name) did new.folder
+
+-- The first commands were answered, and nothing was written; or the file was not opened. No file stays under a name under which one was
+-- made.
 pub record IsStressing (RanTo : Scene → Type 0) (count : ℕ) (old new : Scene) (did : Did) : Type 0 where
   pub rest : List Instruction
   pub first : stress_commands count ≡ commands_then did.past rest
   pub output : new.output ≡ old.output
   pub closing : did.closing ≡ NotBegun
-  pub kept : IsUnopened old new did ⊎ (RanTo new × KeepsSwap (opened_file old stress_name) did new.folder)
+  pub kept : IsUnopened old new did ⊎ HasStopped RanTo rest old new did
   pub cleared : LeavesNoneMade old.folder new.folder
 
 -- the scenes of the hosts of a type
@@ -124,7 +154,7 @@ pub record IsAtCommand (names : Names) (start : Scene) (document : Document) (tu
   -- what was recoverable is recovered, or the document of the sync that the command begins
   pub recovers : Recovers names (recoverable (with_begun turn.sync (after_turns (opened document) first))) moment.folder
 
--- The moment at which the line was written, or a part of it.
+-- A moment after the last command: nothing of the line was written yet, or a part of it, or all.
 pub record IsAtLine (names : Names) (start : Scene) (document : Document) (turns : List Turn) (line : List ℕ) (moment : Snapshot) : Type 0 where
   pub answered : moment.answered ≡ length start.answers + length turns
   pub written : (n : ℕ) × (moment.output ≡ start.output ++ take n line)

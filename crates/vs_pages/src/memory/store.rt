@@ -6,9 +6,6 @@ ghost use Rattle.vs_pages.specs.Memory.{present_of, state_of, KeepsSince, OnlyRe
 ghost use Rattle.vs_pages.specs.MemoryLaws.{are_present, are_committed, keeps_none, keeps_then};
 
 use super::MemPages;
-use crate::buffer::Buffer;
-use crate::exchange::{cut_pages, one_place, places_of};
-use crate::page::{Page, patched_zeros};
 use crate::{PageErr, Pages};
 use std::alloc::Global;
 
@@ -50,55 +47,41 @@ impl Pages for MemPages {
         Ok(())
     }
 
-    // Each page is at hand.
+    // Each page in memory is at hand.
     fn page(&self, at: u64) -> Option<&[u8]>
         ensures size { IfSome result (λ bytes. length bytes.now ≡ 4096) }
         ensures lent { option_map (λ bytes. bytes.now) result ≡ present_of self.now at }
     {
-        Some(self.table.page(at)?.as_slice())
+        self.table.bytes(at)
     }
 
     fn touch(&mut self, alloc: Global, at: u64, pages: u32, bytes: &[u8]) -> Result<(), PageErr> {
-        let fresh = cut_pages(alloc, bytes, pages)?;
-        self.change(at, fresh)?;
+        self.touch_places(alloc, at, pages, bytes)?;
         Ok(())
     }
 
     fn put(&mut self, alloc: Global, at: u64, bytes: Vec<u8>) -> Result<(), PageErr> {
-        let fresh = one_place(alloc, Page::Written(Buffer { bytes }))?;
-        self.change(at, fresh)?;
+        self.put_place(alloc, at, bytes)?;
         Ok(())
     }
 
     fn patch(&mut self, alloc: Global, at: u64, from: usize, bytes: &[u8]) -> Result<(), PageErr> {
-        if self.table.is_written(at) {
-            self.change_bytes(alloc, at, from, bytes)?;
-            return Ok(());
-        }
-        let page = patched_zeros(alloc, from, bytes)?;
-        let fresh = one_place(alloc, page)?;
-        self.change(at, fresh)?;
+        self.patch_place(alloc, at, from, bytes)?;
         Ok(())
     }
 
     fn grow(&mut self, alloc: Global, pages: u32) -> Result<u64, PageErr> {
-        self.vacant.forget(&self.table, self.used);
-        let at = self.vacant_run(pages).ok_or(PageErr::NoMemory)?;
-        let fresh = places_of(alloc, pages, true)?;
-        self.change(at, fresh)?;
-        self.vacant.take(at, pages as usize);
-        Ok(at)
+        Ok(self.grow_places(alloc, pages)?)
     }
 
     fn free(&mut self, alloc: Global, at: u64, pages: u32) -> Result<(), PageErr> {
-        let none = places_of(alloc, pages, false)?;
-        self.change(at, none)?;
-        self.vacant.add(at, pages as usize);
+        self.free_places(alloc, at, pages)?;
         Ok(())
     }
 
+    // The pages that are in memory.
     fn count(&self) -> u64 {
-        self.table.count
+        self.table.here
     }
 
     fn commit(&mut self) {

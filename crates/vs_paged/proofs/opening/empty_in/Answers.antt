@@ -1,4 +1,5 @@
 use Rattle.std.proofs.Common.{[], refl, ◌∙◌}
+use Rattle.vs_pages.specs.Maps.{no_pages}
 use Rattle.vs_pages.specs.Memory.{present_of}
 use Rattle.vs_tree_blocks.proofs.FirstLemmas.{fresh_first}
 use Rattle.vs_tree.specs.TextIn.{text_in-HasText}
@@ -12,3 +13,9 @@ returns-clause-text c = c.commit_in.ensures.text ∙ text_in-HasText (present_of
 
 pub commit_in-requires-clause-filled : goal.commit_in-requires-clause-filled
 commit_in-requires-clause-filled c = c.in-Ok.ensures.filled refl
+
+pub returns-in-Err-clause-here : goal.returns-in-Err-clause-here
+returns-in-Err-clause-here c = c.new.ensures.stays.backed no_pages
+
+pub returns-clause-here : goal.returns-clause-here
+returns-clause-here c here = c.commit_in.ensures.here (c.new.ensures.stays.backed no_pages here)

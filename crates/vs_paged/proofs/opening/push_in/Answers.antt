@@ -1,4 +1,5 @@
 use Rattle.std.proofs.Common.{◌∙◌, ◌++◌, true, sym, refl, ap}
+use Rattle.vs_pages.specs.Maps.{no_pages}
 use Rattle.vs_pages.specs.Memory.{committed_of, present_of, state_of}
 use Rattle.vs_pages.specs.State.{Commits}
 use Rattle.vs_tree.proofs.Kept.{fits_kept, work_kept}
@@ -50,3 +51,9 @@ returns-in-Err-clause-committed c =
       idle = work_kept (state_of old) (state_of new) (history_worked (state_of old) (state_of new) (c.in-Err.ensures.back refl)) (c.push_lines.ensures.kept.commits refl)
           ∙ c.requires.committed.idle ∙ sym (ap (λ (made : Commits). made.last) (c.push_lines.ensures.kept.commits refl));
     }
+
+pub returns-in-Ok-clause-here : goal.returns-in-Ok-clause-here
+returns-in-Ok-clause-here c here = c.commit_in.ensures.here (c.push_lines.ensures.kept.stays.backed no_pages here)
+
+pub returns-in-Err-clause-here : goal.returns-in-Err-clause-here
+returns-in-Err-clause-here c = c.push_lines.ensures.kept.stays.backed no_pages

@@ -1,4 +1,5 @@
 use Rattle.vs_pair.specs.Pair.{is_swap}
+use Rattle.vs_pair.proofs.AwayLemmas.{away_same}
 use Rattle.vs_pair.proofs.MadeFiles.{synced_same}
 use Rattle.vs_pair.proofs.Others.{fit_kept, recovers_kept, rises_kept}
 use Rattle.vs_pair.proofs.laws.leaving.Goals as goal
@@ -14,3 +15,6 @@ returns-clause-rises c = λ names start old new same rises. rises_kept names old
 
 pub returns-clause-names : goal.returns-clause-names
 returns-clause-names c = λ names old new syncs. synced_same (is_swap names) old new syncs
+
+pub returns-clause-away : goal.returns-clause-away
+returns-clause-away c = away_same

@@ -4,7 +4,9 @@ use Rattle.vs_host.specs.File.{Leaves, WritesSome}
 use Rattle.vs_host.specs.Trace.{Created, Wrote, Renamed}
 use Rattle.vs_disk.proofs.Contents.{not_there}
 use Rattle.vs_pages.specs.Memory.{committed_of}
+use Rattle.vs_pair.specs.Held.{held_from}
 use Rattle.vs_pair.specs.Swap.{IsMade, KeepsMark}
+use Rattle.vs_pair.proofs.AwayLemmas.{apart_names, body_here, here_backed}
 use Rattle.vs_disk.proofs.Modes.{mode_made, mode_stays, modes_renamed}
 use Rattle.vs_disk.proofs.Quiet.{none_call, none_then}
 use Rattle.vs_pair.proofs.Calls.{create_acts, write_acts, either_acts, is_there}
@@ -35,7 +37,13 @@ returns-in_err-write_at-clause-acts g c =
 
 pub write_pages-requires-clause-there : goal.write_pages-requires-clause-there
 write_pages-requires-clause-there g c told =
-    new_fresh c.args.temporary.now c.args.pages.now _ (marked_new c.args.temporary.now (g.F.World.scene c.create_private.new.self).folder (g.F.World.scene c.write_at.new.self).folder (c.in_ok-write_at.ensures.ok told) (created c.args.temporary.now (g.F.World.scene c.clear.new.host).folder (g.F.World.scene c.create_private.new.self).folder (c.in_ok-create_private.ensures.ok told)))
+    new_fresh c.args.temporary.now (held_from c.args.pages.now (g.F.World.scene c.write_at.new.self).folder c.args.name.now) _ (marked_new c.args.temporary.now (g.F.World.scene c.create_private.new.self).folder (g.F.World.scene c.write_at.new.self).folder (c.in_ok-write_at.ensures.ok told) (created c.args.temporary.now (g.F.World.scene c.clear.new.host).folder (g.F.World.scene c.create_private.new.self).folder (c.in_ok-create_private.ensures.ok told)))
+
+pub write_pages-requires-clause-apart : goal.write_pages-requires-clause-apart
+write_pages-requires-clause-apart g c told = apart_names (g.F.World.scene c.write_at.new.self).folder c.args.temporary.now c.args.name.now (g.F.World.is_folder c.write_at.new.self told) c.requires.differ
+
+pub write_pages-requires-clause-backed : goal.write_pages-requires-clause-backed
+write_pages-requires-clause-backed g c told = here_backed _ c.args.pages.now (c.requires.here told)
 
 pub returns-in_err-write_pages-clause-acts : goal.returns-in_err-write_pages-clause-acts
 returns-in_err-write_pages-clause-acts g c =
@@ -51,7 +59,7 @@ returns-in_err-write_pages-clause-acts g c =
 
 pub rename-requires-clause-there : goal.rename-requires-clause-there
 rename-requires-clause-there g c told =
-    is_there (g.F.World.scene c.write_pages.new.host).folder c.args.temporary.now _ (whole_new c.args.temporary.now (record { first = c.args.first.now; pages = committed_of c.args.pages.now }) (g.F.World.scene c.write_at.new.self).folder (g.F.World.scene c.write_pages.new.host).folder (c.in_ok-write_pages.ensures.written told)
+    is_there (g.F.World.scene c.write_pages.new.host).folder c.args.temporary.now _ (whole_new c.args.temporary.now (record { first = c.args.first.now; pages = committed_of c.args.pages.now }) (g.F.World.scene c.write_at.new.self).folder (g.F.World.scene c.write_pages.new.host).folder (body_here c.args.temporary.now c.args.name.now c.args.first.now c.args.pages.now (g.F.World.scene c.write_at.new.self).folder (g.F.World.scene c.write_pages.new.host).folder (c.requires.here told) (c.in_ok-write_pages.ensures.written told))
     (marked_new c.args.temporary.now (g.F.World.scene c.create_private.new.self).folder (g.F.World.scene c.write_at.new.self).folder (c.in_ok-write_at.ensures.ok told) (created c.args.temporary.now (g.F.World.scene c.clear.new.host).folder (g.F.World.scene c.create_private.new.self).folder (c.in_ok-create_private.ensures.ok told))))
 
 pub returns-clause-acts : goal.returns-clause-acts
@@ -69,7 +77,7 @@ returns-clause-acts g c =
     (λ told. (making_writes c.args.temporary.now (WritesSome 0 2) _ (g.F.World.scene c.create_private.new.self).folder (g.F.World.scene c.write_at.new.self).folder (making_creates c.args.temporary.now _ (g.F.World.scene c.clear.new.host).folder (g.F.World.scene c.create_private.new.self).folder (making_begins c.args.temporary.now _ _ (c.clear.ensures.acts.runs told).now (c.in_ok-clear.ensures.free told)) (c.in_ok-create_private.ensures.ok told)) (c.write_at.ensures.some told)))
     c.write_pages.ensures.acts)
     (λ told. (making_writes c.args.temporary.now KeepsMark _ (g.F.World.scene c.write_at.new.self).folder (g.F.World.scene c.write_pages.new.host).folder (making_writes c.args.temporary.now (WritesSome 0 2) _ (g.F.World.scene c.create_private.new.self).folder (g.F.World.scene c.write_at.new.self).folder (making_creates c.args.temporary.now _ (g.F.World.scene c.clear.new.host).folder (g.F.World.scene c.create_private.new.self).folder (making_begins c.args.temporary.now _ _ (c.clear.ensures.acts.runs told).now (c.in_ok-clear.ensures.free told)) (c.in_ok-create_private.ensures.ok told)) (c.write_at.ensures.some told)) (c.write_pages.ensures.acts.runs told).now))
-    (λ told. made_holds c.args.temporary.now (record { first = c.args.first.now; pages = committed_of c.args.pages.now }) _ (whole_new c.args.temporary.now (record { first = c.args.first.now; pages = committed_of c.args.pages.now }) (g.F.World.scene c.write_at.new.self).folder (g.F.World.scene c.write_pages.new.host).folder (c.in_ok-write_pages.ensures.written told)
+    (λ told. made_holds c.args.temporary.now (record { first = c.args.first.now; pages = committed_of c.args.pages.now }) _ (whole_new c.args.temporary.now (record { first = c.args.first.now; pages = committed_of c.args.pages.now }) (g.F.World.scene c.write_at.new.self).folder (g.F.World.scene c.write_pages.new.host).folder (body_here c.args.temporary.now c.args.name.now c.args.first.now c.args.pages.now (g.F.World.scene c.write_at.new.self).folder (g.F.World.scene c.write_pages.new.host).folder (c.requires.here told) (c.in_ok-write_pages.ensures.written told))
     (marked_new c.args.temporary.now (g.F.World.scene c.create_private.new.self).folder (g.F.World.scene c.write_at.new.self).folder (c.in_ok-write_at.ensures.ok told) (created c.args.temporary.now (g.F.World.scene c.clear.new.host).folder (g.F.World.scene c.create_private.new.self).folder (c.in_ok-create_private.ensures.ok told)))))
     (either_acts g.F.World.tells (ChangesNames (Renames c.args.temporary.now c.args.name.now)) Renamed _ c.rename.result _ _ c.rename.ensures.ok c.rename.ensures.err c.rename.ensures.cause c.rename.ensures.told c.rename.ensures.frame
     (λ told renames allowed may. modes_renamed allowed c.args.temporary.now c.args.name.now _ _
@@ -82,7 +90,7 @@ pub returns-clause-made : goal.returns-clause-made
 returns-clause-made g c =
     on_ok_weaker c.rename.result
     (λ renames told. renamed_has c.args.temporary.now c.args.name.now (λ file. Leaves file (IsMade (record { first = c.args.first.now; pages = committed_of c.args.pages.now }))) (g.F.World.scene c.write_pages.new.host).folder (g.F.World.scene c.rename.new.self).folder
-    (whole_new c.args.temporary.now (record { first = c.args.first.now; pages = committed_of c.args.pages.now }) (g.F.World.scene c.write_at.new.self).folder (g.F.World.scene c.write_pages.new.host).folder (c.in_ok-write_pages.ensures.written told)
+    (whole_new c.args.temporary.now (record { first = c.args.first.now; pages = committed_of c.args.pages.now }) (g.F.World.scene c.write_at.new.self).folder (g.F.World.scene c.write_pages.new.host).folder (body_here c.args.temporary.now c.args.name.now c.args.first.now c.args.pages.now (g.F.World.scene c.write_at.new.self).folder (g.F.World.scene c.write_pages.new.host).folder (c.requires.here told) (c.in_ok-write_pages.ensures.written told))
     (marked_new c.args.temporary.now (g.F.World.scene c.create_private.new.self).folder (g.F.World.scene c.write_at.new.self).folder (c.in_ok-write_at.ensures.ok told) (created c.args.temporary.now (g.F.World.scene c.clear.new.host).folder (g.F.World.scene c.create_private.new.self).folder (c.in_ok-create_private.ensures.ok told))))
     (renames told))
     c.rename.ensures.ok

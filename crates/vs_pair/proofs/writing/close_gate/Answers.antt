@@ -1,7 +1,8 @@
 use Rattle.vs_host.specs.Disk.{ChangesFile}
 use Rattle.vs_disk.proofs.Steps.{same_file}
 use Rattle.vs_pair.specs.Swap.{CloseStep, Closes, KeepsLength}
-use Rattle.vs_disk.proofs.Quiet.{none_fails, calls_none}
+use Rattle.vs_disk.proofs.Quiet.{none_fails}
+use Rattle.vs_pair.proofs.ReadLemmas.{works_none}
 use Rattle.vs_pair.proofs.Acts.{acts_none}
 use Rattle.vs_pair.proofs.Calls.{on_err_from}
 use Rattle.vs_pair.proofs.Gates.{not_closed, close_same, closes_same, length_same, close_acts, mark_closes}
@@ -35,11 +36,11 @@ returns-in_ok-mark-in-Open-clause-acts g c = close_acts g.F.World.tells c.args.n
 pub returns-in_ok-mark-in-Open-clause-closes : goal.returns-in_ok-mark-in-Open-clause-closes
 returns-in_ok-mark-in-Open-clause-closes g c told = mark_closes c.args.name.now c.args.gate.now _ _ (c.mark.ensures.acts.runs told).now (c.in_ok-mark-in-Open.ensures.marked told)
 
-pub returns-in-Closed-clause-calls : goal.returns-in-Closed-clause-calls
-returns-in-Closed-clause-calls g c = calls_none g.F.World.tells _ 2
+pub returns-in-Closed-clause-works : goal.returns-in-Closed-clause-works
+returns-in-Closed-clause-works g c = works_none g.F.World.tells _ 2 0
 
-pub returns-in_err-mark-in-Open-clause-calls : goal.returns-in_err-mark-in-Open-clause-calls
-returns-in_err-mark-in-Open-clause-calls g c = c.mark.ensures.calls
+pub returns-in_err-mark-in-Open-clause-works : goal.returns-in_err-mark-in-Open-clause-works
+returns-in_err-mark-in-Open-clause-works g c = c.mark.ensures.works
 
-pub returns-in_ok-mark-in-Open-clause-calls : goal.returns-in_ok-mark-in-Open-clause-calls
-returns-in_ok-mark-in-Open-clause-calls g c = c.mark.ensures.calls
+pub returns-in_ok-mark-in-Open-clause-works : goal.returns-in_ok-mark-in-Open-clause-works
+returns-in_ok-mark-in-Open-clause-works g c = c.mark.ensures.works

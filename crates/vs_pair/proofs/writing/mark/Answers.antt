@@ -1,10 +1,11 @@
 use Rattle.std.proofs.lemmas.Result.{on_ok_weaker, on_err_weaker}
 use Rattle.vs_host.specs.Trace.{Wrote, Synced}
 use Rattle.vs_pair.specs.Swap.{ChangesMark}
-use Rattle.vs_disk.proofs.Quiet.{none_call, none_then, calls_one, calls_then, calls_within}
+use Rattle.vs_disk.proofs.Quiet.{none_call, none_then}
 use Rattle.vs_pair.proofs.Calls.{write_acts, sync_acts, acts_file, on_err_from}
+use Rattle.vs_pair.proofs.ReadLemmas.{works_one, works_then, works_within}
 use Rattle.vs_pair.proofs.Marks.{mark_joins, write_mark, sync_mark, marked, mark_length, failed_write, failed_sync}
-use Rattle.std.proofs.Common.{arith}
+use Rattle.std.proofs.Common.{refl, arith}
 use Rattle.vs_pair.proofs.writing.mark.Goals as goal
 
 pub returns-in_err-write_at-clause-acts : goal.returns-in_err-write_at-clause-acts
@@ -41,9 +42,9 @@ returns-clause-none g c =
     (none_call g.F.World.tells Synced _ c.sync.result _ _ c.sync.ensures.frame c.sync.ensures.told quiet))
     c.sync.ensures.quiet
 
-pub returns-in_err-write_at-clause-calls : goal.returns-in_err-write_at-clause-calls
-returns-in_err-write_at-clause-calls g c = calls_within g.F.World.tells _ _ 1 2 (omega arith) (calls_one g.F.World.tells Wrote _ c.write_at.result _ _ c.write_at.ensures.told)
+pub returns-in_err-write_at-clause-works : goal.returns-in_err-write_at-clause-works
+returns-in_err-write_at-clause-works g c = works_within g.F.World.tells _ _ 1 2 0 0 (omega arith) (omega arith) (works_one g.F.World.tells Wrote _ 1 0 refl refl c.write_at.result _ _ c.write_at.ensures.told)
 
-pub returns-clause-calls : goal.returns-clause-calls
-returns-clause-calls g c =
-    calls_then g.F.World.tells _ _ _ 1 1 2 (omega arith) (calls_one g.F.World.tells Wrote _ c.write_at.result _ _ c.write_at.ensures.told) (calls_one g.F.World.tells Synced _ c.sync.result _ _ c.sync.ensures.told)
+pub returns-clause-works : goal.returns-clause-works
+returns-clause-works g c =
+    works_then g.F.World.tells _ _ _ 1 1 2 0 0 0 (omega arith) (omega arith) (works_one g.F.World.tells Wrote _ 1 0 refl refl c.write_at.result _ _ c.write_at.ensures.told) (works_one g.F.World.tells Synced _ 1 0 refl refl c.sync.result _ _ c.sync.ensures.told)

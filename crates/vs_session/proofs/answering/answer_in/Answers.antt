@@ -1,9 +1,9 @@
-use Rattle.std.proofs.Common.{sym, ap, subst, max}
+use Rattle.std.proofs.Common.{IsTrue, sym, ap, subst, max}
 use Rattle.vs_pair.specs.Pair.{shown_in}
 use Rattle.vs_tree.specs.declared.tree.LineTree.{LineTree}
 use Rattle.vs_undo.specs.History.{FitsCount, IsHistory}
 use Rattle.vs_paged.specs.Pages.{IsBounded}
-use Rattle.vs_session.proofs.StoreLemmas.{if_ok_as, present_fits, committed_fits, present_filled, committed_filled, same_text, told_text, paged_text, bounded_tree, stands_paged, stands_undo, stands_back, keeps_back, cause_back}
+use Rattle.vs_session.proofs.StoreLemmas.{if_ok_as, present_fits, committed_fits, present_filled, committed_filled, same_text, told_text, paged_text, bounded_tree, stands_paged, stands_undo, stands_back, keeps_back, ready_back, cause_back}
 use Rattle.vs_paged.proofs.SyncLemmas.{on_err_as}
 use Rattle.vs_machine.specs.Answers.{meaning_at}
 use Rattle.vs_session.specs.Work.{most_in}
@@ -55,6 +55,7 @@ returns-clause-kept g c =
     record {
       bounded = subst (λ (t : LineTree). IsBounded t) (sym (c.tree-1.given.1 (sym stays.0))) (bounded_tree g.F.World.tells.folder (shown_in c.answer.new.store.pages.pair.now (g.F.World.scene c.answer.new.store.pages.host.now).folder) c.answer.new.store.tree.now ready.valid.1 ready.committed);
       counts = subst (λ (t : LineTree). FitsCount c.answer.new.history (max 1 t.present.lines)) (sym (c.tree-1.given.1 (sym stays.0))) ready.counts;
+      ready = ready_back (IsTrue g.F.World.tells.folder) _ _ _ _ (c.pair-1.given.1 (sym stays.1.0)) (ap (λ (h : g.row.F.Denot). (g.F.World.scene h).folder) (c.host-1.given.1 (sym stays.1.1))) ready.valid.0;
       keeps = keeps_back g.F.World.tells c.args.pair.now _ _ (g.F.World.scene c.args.host.now) _ _ (c.pair-1.given.1 (sym stays.1.0)) (ap (λ (h : g.row.F.Denot). g.F.World.scene h) (c.host-1.given.1 (sym stays.1.1))) stays.1.2;
       cause = cause_back g.F.World.tells (g.F.World.scene c.args.host.now).folder_faults _ _ (ap (λ (h : g.row.F.Denot). g.F.World.scene h) (c.host-1.given.1 (sym stays.1.1))) c.answer.ensures.atomic.cause;
     }

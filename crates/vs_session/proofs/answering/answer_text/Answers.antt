@@ -24,11 +24,11 @@ returns-clause-reply g c =
 
 pub returns-clause-state : goal.returns-clause-state
 returns-clause-state g c =
-    let keeps = c.answer_in.ensures.kept.keeps in
+    let kept = c.answer_in.ensures.kept in
     if_ok_as c.answer_in.result _ _
     (λ answered after told state syncs instruction fits cursor is.
     let now = after told state instruction (record { text = fits.text.pages; history = fits.history }) cursor is in
-    (state_left _ c.args.text.now _ c.args.history.now _ _ _ state _ syncs keeps fits now.0, now.1))
+    (state_left _ c.args.text.now _ c.args.history.now _ _ _ state _ syncs told kept.keeps (kept.ready told) fits now.0, now.1))
     c.answer_in.ensures.state
 
 pub returns-clause-oldest : goal.returns-clause-oldest
@@ -37,10 +37,10 @@ returns-clause-oldest g c =
 
 pub returns-clause-err : goal.returns-clause-err
 returns-clause-err g c =
-    let keeps = c.answer_in.ensures.kept.keeps in
+    let kept = c.answer_in.ensures.kept in
     on_err_as c.answer_in.result _ _
     (λ err told state syncs fits.
-    state_left _ c.args.text.now _ c.args.history.now _ _ _ state state syncs keeps fits (err told state (record { text = fits.text.pages; history = fits.history })))
+    state_left _ c.args.text.now _ c.args.history.now _ _ _ state state syncs told kept.keeps (kept.ready told) fits (err told state (record { text = fits.text.pages; history = fits.history })))
     c.answer_in.ensures.err
 
 pub returns-clause-works : goal.returns-clause-works

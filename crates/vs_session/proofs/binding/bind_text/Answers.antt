@@ -27,7 +27,7 @@ pub returns-clause-kept : goal.returns-clause-kept
 returns-clause-kept g c =
     let kept = c.bind_in.ensures.kept in
     record {
-      fits = λ told lines syncs fits. fits_left _ c.args.text.now _ _ _ lines lines syncs kept.keeps fits (kept.paged told lines fits.pages);
+      fits = λ told lines syncs fits. fits_left _ c.args.text.now _ _ _ lines lines syncs told kept.keeps (kept.ready told) fits (kept.paged told lines fits.pages);
       lines = kept.lines;
       keeps = kept.keeps;
       cause = kept.cause;

@@ -1,9 +1,9 @@
-use Rattle.std.proofs.Common.{sym, ap, subst, max}
+use Rattle.std.proofs.Common.{IsTrue, sym, ap, subst, max}
 use Rattle.vs_pair.specs.Pair.{shown_in}
 use Rattle.vs_tree.specs.declared.tree.LineTree.{LineTree}
 use Rattle.vs_undo.specs.History.{FitsCount}
 use Rattle.vs_paged.specs.Pages.{IsBounded}
-use Rattle.vs_session.proofs.StoreLemmas.{if_ok_as, present_fits, committed_fits, present_filled, committed_filled, same_text, told_text, paged_text, bounded_tree, stands_paged, stands_undo, stands_back, keeps_back, cause_back, kept_same}
+use Rattle.vs_session.proofs.StoreLemmas.{if_ok_as, present_fits, committed_fits, present_filled, committed_filled, same_text, told_text, paged_text, bounded_tree, stands_paged, stands_undo, stands_back, keeps_back, ready_back, cause_back, kept_same}
 use Rattle.vs_session.proofs.WorkLemmas.{unworked_back}
 use Rattle.vs_session.proofs.unbinding.unbind_in.Goals as goal
 
@@ -37,6 +37,7 @@ returns-clause-kept g c =
       bounded = subst (λ (t : LineTree). IsBounded t) (sym (c.tree-1.given.1 (sym stays.0)))
           (bounded_tree g.F.World.tells.folder (shown_in c.unbind.new.text.pages.pair.now (g.F.World.scene c.unbind.new.text.pages.host.now).folder) c.unbind.new.text.tree.now kept.valid.1 (kept_same g.F.World.tells.folder (shown_in c.args.pair.now (g.F.World.scene c.args.host.now).folder) (shown_in c.unbind.new.text.pages.pair.now (g.F.World.scene c.unbind.new.text.pages.host.now).folder) c.args.tree.now c.unbind.new.text.tree.now c.requires.lent.bounded paged kept.present kept.committed));
       counts = subst (λ (t : LineTree). FitsCount c.args.history.now (max 1 t.present.lines)) (sym (c.tree-1.given.1 (sym stays.0))) (subst (λ n. FitsCount c.args.history.now (max 1 n)) (sym kept.present.lines) c.requires.lent.counts);
+      ready = ready_back (IsTrue g.F.World.tells.folder) _ _ _ _ (c.pair-1.given.1 (sym stays.1.0)) (ap (λ (h : g.row.F.Denot). (g.F.World.scene h).folder) (c.host-1.given.1 (sym stays.1.1))) kept.valid.0;
       keeps = keeps_back g.F.World.tells c.args.pair.now _ _ (g.F.World.scene c.args.host.now) _ _ (c.pair-1.given.1 (sym stays.1.0)) (ap (λ (h : g.row.F.Denot). g.F.World.scene h) (c.host-1.given.1 (sym stays.1.1))) stays.1.2;
       cause = cause_back g.F.World.tells (g.F.World.scene c.args.host.now).folder_faults _ _ (ap (λ (h : g.row.F.Denot). g.F.World.scene h) (c.host-1.given.1 (sym stays.1.1))) c.unbind.ensures.cause;
     }

@@ -25,5 +25,5 @@ returns-clause-made g c =
 
 pub returns-clause-fits : goal.returns-clause-fits
 returns-clause-fits g c told state syncs fits =
-    let keeps = c.unbind_in.ensures.kept.keeps in
-    state_left _ c.args.text.now _ c.args.history.now _ _ _ state state syncs keeps fits (c.unbind_in.ensures.stands told state (record { text = fits.text.pages; history = fits.history }))
+    let kept = c.unbind_in.ensures.kept in
+    state_left _ c.args.text.now _ c.args.history.now _ _ _ state state syncs told kept.keeps (kept.ready told) fits (c.unbind_in.ensures.stands told state (record { text = fits.text.pages; history = fits.history }))

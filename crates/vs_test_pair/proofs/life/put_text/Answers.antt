@@ -1,32 +1,33 @@
-use Rattle.std.proofs.Common.{◌≡◌, List, IsSome, refl, sym, ap, subst, ◌∙◌}
-use Rattle.vs_host.specs.World.{Scene}
-use Rattle.vs_pages.specs.Maps.{Map, pages_at, put_pages}
-use Rattle.vs_pages.specs.Memory.{present_of}
-use Rattle.vs_pair.specs.Held.{KeepsHeld, held_of}
-use Rattle.vs_pair.specs.LentLaws.{keeps_then}
+use Rattle.std.proofs.Common.{◌≡◌, ◌≤◌, IsSome, refl, sym, ap, subst, ◌∙◌}
+use Rattle.vs_pages.specs.Maps.{Map, pages_at}
+use Rattle.vs_pair.specs.declared.files.SwapFiles.{SwapFiles}
 use Rattle.vs_pair.specs.declared.pair.SwapPair.{SwapPair}
+use Rattle.vs_pair.specs.Lent.{IsReady}
+use Rattle.vs_pair.specs.Pair.{shown_in}
+use Rattle.vs_test_pair.proofs.Moved.{fitting, ready}
 use Rattle.vs_test_pair.proofs.life.put_text.Goals as goal
+
+pub touch-requires-clause-valid : goal.touch-requires-clause-valid
+touch-requires-clause-valid g c = λ told. ready _ _ (c.requires.fits told)
 
 pub returns-clause-files : goal.returns-clause-files
 returns-clause-files g c =
     let back = c.pair-2-1.given.1 (sym (c.commit.ensures.stays.0 ∙ c.in_ok-touch.ensures.kept.stays.0)) in
     ap (λ (p : SwapPair). p.files) back ∙ c.commit.ensures.stays.2.files ∙ c.in_ok-touch.ensures.kept.stays.2.files
 
-pub returns-clause-held : goal.returns-clause-held
-returns-clause-held g c =
-    let old = c.args.pair.now in
+pub returns-clause-fits : goal.returns-clause-fits
+returns-clause-fits g c = λ told.
     let back = c.pair-2-1.given.1 (sym (c.commit.ensures.stays.0 ∙ c.in_ok-touch.ensures.kept.stays.0)) in
-    let both = keeps_then g.F.World.tells old _ _ (g.F.World.scene c.args.host.now) _ _ c.in_ok-touch.ensures.kept.stays.2 c.commit.ensures.stays.2 in
-    subst (λ (p : SwapPair). KeepsHeld (held_of old.pages) (held_of p.pages)) (sym back) both.held
+    let left = c.host-2-1.given.1 (sym (c.commit.ensures.stays.1 ∙ c.in_ok-touch.ensures.kept.stays.1)) in
+    let files = ap (λ (p : SwapPair). p.files) back ∙ c.commit.ensures.stays.2.files ∙ c.in_ok-touch.ensures.kept.stays.2.files in
+    let is = subst (λ (p : SwapPair). IsReady p (g.F.World.scene c.host-2-1.given.0).folder) (sym back)
+    (subst (λ (h : g.row.F.Denot). IsReady c.commit.new.self.pair.now (g.F.World.scene h).folder) (sym left) (c.commit.ensures.valid told)) in
+    fitting _ _ (subst (λ (f : SwapFiles). 2 ≤ f.generation) (sym files) c.requires.started) is
 
 pub returns-clause-there : goal.returns-clause-there
-returns-clause-there g c told =
+returns-clause-there g c = λ told.
     let back = c.pair-2-1.given.1 (sym (c.commit.ensures.stays.0 ∙ c.in_ok-touch.ensures.kept.stays.0)) in
-    let written = ap (λ (p : SwapPair). present_of p.pages) back ∙ c.commit.ensures.present told ∙ c.in_ok-touch.ensures.ok told in
-    subst (λ (m : Map). IsSome (pages_at m 2 1)) (sym written) refl
-
-pub returns-clause-folder : goal.returns-clause-folder
-returns-clause-folder g c =
-    let back = c.host-2-1.given.1 (sym (c.commit.ensures.stays.1 ∙ c.in_ok-touch.ensures.kept.stays.1)) in
-    ap (λ (h : g.row.F.Denot). (g.F.World.scene h).folder) back
-    ∙ ap (λ (s : Scene). s.folder) c.commit.ensures.stays.2.frame ∙ ap (λ (s : Scene). s.folder) c.in_ok-touch.ensures.kept.stays.2.frame
+    let left = c.host-2-1.given.1 (sym (c.commit.ensures.stays.1 ∙ c.in_ok-touch.ensures.kept.stays.1)) in
+    let here : (shown_in c.pair-2-1.given.0 (g.F.World.scene c.host-2-1.given.0).folder).present ≡ (shown_in c.commit.new.self.pair.now (g.F.World.scene c.commit.new.self.host.now).folder).present =
+    λ i. (shown_in (back i) (g.F.World.scene (left i)).folder).present in
+    subst (λ (m : Map). IsSome (pages_at m 2 1)) (sym (here ∙ (c.commit.ensures.present told ∙ c.in_ok-touch.ensures.ok told))) refl

@@ -1,20 +1,14 @@
-use Rattle.std.proofs.Common.{inl, refl, sym, ap, subst, ◌∙◌, IsSome}
-use Rattle.vs_host.specs.declared.names.Names.{Names}
+use Rattle.std.proofs.Common.{IsSome, refl, sym, subst}
 use Rattle.vs_pages.specs.Maps.{Map, pages_at}
-use Rattle.vs_pair.specs.declared.files.SwapFiles.{SwapFiles}
-use Rattle.vs_pair.specs.Steps.{IsFresh}
-use Rattle.vs_test_pair.proofs.Moved.{fresh_moved}
+use Rattle.vs_pages.specs.State.{PageState}
+use Rattle.vs_test_pair.specs.Lives.{Fits}
 use Rattle.vs_test_pair.proofs.life.start_text.Goals as goal
 
-pub put_text-requires-clause-ready : goal.put_text-requires-clause-ready
-put_text-requires-clause-ready g c told = inl (c.in_ok-pair.ensures.generation, subst (λ (n : Names). IsFresh n (g.F.World.scene c.args.host.now).folder) (sym c.in_ok-pair.ensures.names) (c.requires.fresh told))
-
-pub put_text-requires-clause-there : goal.put_text-requires-clause-there
-put_text-requires-clause-there g c told = subst (λ (m : Map). IsSome (pages_at m 2 1)) (sym c.in_ok-pair.ensures.present) refl
-
-pub start-requires-clause-fresh : goal.start-requires-clause-fresh
-start-requires-clause-fresh g c told =
-    fresh_moved _ _ _ (g.F.World.scene c.put_text.new.host).folder (ap (λ (f : SwapFiles). f.names) c.in_ok-put_text.ensures.files ∙ c.in_ok-pair.ensures.names) c.in_ok-put_text.ensures.folder (c.requires.fresh told)
+pub fill_first-requires : goal.fill_first-requires
+fill_first-requires g c = record { there = subst (λ (m : Map). IsSome (pages_at m 2 1)) (sym c.in_ok-pair.ensures.present) refl }
 
 pub returns-in-Ok-clause-fits : goal.returns-in-Ok-clause-fits
-returns-in-Ok-clause-fits g c told = (_, _, _, c.in-Ok.ensures.ok told)
+returns-in-Ok-clause-fits g c told = record { fit = (_, _, _, c.in-Ok.ensures.ok told); stored = c.in-Ok.ensures.stored told }
+
+pub returns-in-Ok-clause-there : goal.returns-in-Ok-clause-there
+returns-in-Ok-clause-there g c told = subst (λ (s : PageState). IsSome (pages_at s.present 2 1)) (sym (c.in-Ok.ensures.shown told)) c.in_ok-fill_first.ensures.there

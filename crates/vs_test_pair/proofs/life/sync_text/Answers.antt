@@ -1,31 +1,21 @@
-use Rattle.std.proofs.Common.{inr}
-use Rattle.vs_test_pair.proofs.Moved.{fit_moved}
+use Rattle.std.proofs.Common.{IsSome, sym, subst}
+use Rattle.vs_pages.specs.Maps.{pages_at}
+use Rattle.vs_pages.specs.State.{PageState}
+use Rattle.vs_test_pair.specs.Lives.{Fits}
 use Rattle.vs_test_pair.proofs.life.sync_text.Goals as goal
-
-pub put_text-requires-clause-ready : goal.put_text-requires-clause-ready
-put_text-requires-clause-ready g c told = inr (c.requires.fits told)
-
-pub sync-requires-clause-fits : goal.sync-requires-clause-fits
-sync-requires-clause-fits g c told =
-    let was = c.requires.fits told in
-    (was.0, was.1, was.2, fit_moved c.args.pair.now c.put_text.new.pair (g.F.World.scene c.args.host.now).folder (g.F.World.scene c.put_text.new.host).folder was.0 was.1 was.2 c.in_ok-put_text.ensures.files c.in_ok-put_text.ensures.held c.in_ok-put_text.ensures.folder was.3)
 
 pub returns-in-Ok-clause-fits : goal.returns-in-Ok-clause-fits
 returns-in-Ok-clause-fits g c told =
-    let was = c.requires.fits told in (
-      _,
-      _,
-      _,
-      c.in-Ok.ensures.ok told was.0 was.1 was.2
-          (fit_moved c.args.pair.now c.put_text.new.pair (g.F.World.scene c.args.host.now).folder (g.F.World.scene c.put_text.new.host).folder was.0 was.1 was.2 c.in_ok-put_text.ensures.files c.in_ok-put_text.ensures.held c.in_ok-put_text.ensures.folder was.3),
-    )
+    let was = (c.in_ok-put_text.ensures.fits told).fit in
+    record { fit = (_, _, _, c.in-Ok.ensures.ok told was.0 was.1 was.2 was.3); stored = c.sync.ensures.stored told }
+
+pub returns-in-Ok-clause-there : goal.returns-in-Ok-clause-there
+returns-in-Ok-clause-there g c told = subst (λ (s : PageState). IsSome (pages_at s.present 2 1)) (sym (c.sync.ensures.shown told)) (c.in_ok-put_text.ensures.there told)
 
 pub returns-in-Err-clause-fits : goal.returns-in-Err-clause-fits
 returns-in-Err-clause-fits g c told =
-    let was = c.requires.fits told in (
-      _,
-      _,
-      _,
-      c.in-Err.ensures.err told was.0 was.1 was.2
-          (fit_moved c.args.pair.now c.put_text.new.pair (g.F.World.scene c.args.host.now).folder (g.F.World.scene c.put_text.new.host).folder was.0 was.1 was.2 c.in_ok-put_text.ensures.files c.in_ok-put_text.ensures.held c.in_ok-put_text.ensures.folder was.3),
-    )
+    let was = (c.in_ok-put_text.ensures.fits told).fit in
+    record { fit = (_, _, _, c.in-Err.ensures.err told was.0 was.1 was.2 was.3); stored = c.sync.ensures.stored told }
+
+pub returns-in-Err-clause-there : goal.returns-in-Err-clause-there
+returns-in-Err-clause-there g c told = subst (λ (s : PageState). IsSome (pages_at s.present 2 1)) (sym (c.sync.ensures.shown told)) (c.in_ok-put_text.ensures.there told)

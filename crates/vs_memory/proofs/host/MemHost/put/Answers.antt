@@ -18,6 +18,6 @@ invariant_of-self-2 c =
     let bytes : c.in_ok-from_slice.field-0.items ≡ c.args.bytes.items = search rules in
     let calls : s.calls ≡ 0 = ap (λ (m : Memory). m.calls) c.self.view_is ∙ c.requires.unused in
     let done : disk_in c.put.new.self ≡ with_put c.args.name.now c.args.bytes.items (disk_in s.folder) = search rules in
-    subst (λ (base : List (List ℕ × List ℕ)). IsHost c.put.new.self s.output.items base (reverse s.log.items) s.calls s.script_at (vec_len s.script))
+    subst (λ (base : List (List ℕ × List ℕ)). IsHost c.put.new.self s.output.items base (reverse s.log.items) s.calls s.folder_faults s.script_at (vec_len s.script))
     (sym (puts_pushed s.base.items c.push.new.self.items file c.args.name.now c.args.bytes.items items name bytes))
-    (put_host s.folder c.put.new.self s.output.items (puts s.base.items) (reverse s.log.items) c.args.name.now c.args.bytes.items s.calls s.script_at (vec_len s.script) c.self.invariant calls done)
+    (put_host s.folder c.put.new.self s.output.items (puts s.base.items) (reverse s.log.items) c.args.name.now c.args.bytes.items s.calls s.folder_faults s.script_at (vec_len s.script) c.self.invariant calls done)

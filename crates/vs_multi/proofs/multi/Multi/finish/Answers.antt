@@ -23,3 +23,6 @@ returns-in-Two-clause-fits g c = record {
   second = rw c.take-in-Two.ensures.after tt;
   own = rw c.take-in-Two.ensures.after (own_swapped g.H.World.tells None c.args.self.now.one (g.H.World.scene c.finish_taken-in-Two.new.host).folder tt);
 }
+
+pub invariant_of-self-in-Two : goal.invariant_of-self-in-Two
+invariant_of-self-in-Two g c = record { apart = rw c.take-in-Two.ensures.after (clear_swapped None c.args.self.now.one tt) }

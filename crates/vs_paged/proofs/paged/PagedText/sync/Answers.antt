@@ -1,6 +1,4 @@
 use Rattle.std.proofs.Common.{refl, ap}
-use Rattle.vs_pages.specs.Memory.{state_of}
-use Rattle.vs_pages.specs.declared.memory.MemPages.{MemPages}
 use Rattle.vs_text.specs.Documents.{Document}
 use Rattle.vs_pair.specs.declared.head.Head.{Head}
 use Rattle.vs_pair.specs.Pair as pair
@@ -10,6 +8,9 @@ use Rattle.vs_paged.specs.Fits.{Syncing}
 use Rattle.vs_paged.proofs.SyncLemmas.{on_ok_as, on_err_as, document_synced, syncing_documents, synced_fits, failed_fits}
 use Rattle.vs_paged.proofs.TurnLemmas.{turns}
 use Rattle.vs_paged.proofs.paged.PagedText.sync.Goals as goal
+
+pub sync-requires-clause-stored : goal.sync-requires-clause-stored
+sync-requires-clause-stored g c told = (c.requires.fits told).2.stored
 
 pub sync-requires-clause-fits : goal.sync-requires-clause-fits
 sync-requires-clause-fits g c told = let fits = (c.requires.fits told).2 in (fits.newest, fits.later, fits.past, fits.fit)
@@ -23,14 +24,14 @@ returns-clause-acts g c =
 pub returns-clause-ok : goal.returns-clause-ok
 returns-clause-ok g c =
     on_ok_as c.sync.result _ _
-    (λ ok told text syncs fits. synced_fits c.args.self.now _ c.head_of.result c.args.dirty _ (g.F.World.scene c.sync.new.host).folder (record { text = text; format = c.args.format }) syncs refl (ap (λ (m : MemPages). state_of m) c.sync.ensures.pages)
+    (λ ok told text syncs fits. synced_fits c.args.self.now _ c.head_of.result c.args.dirty _ (g.F.World.scene c.sync.new.host).folder (record { text = text; format = c.args.format }) syncs refl (c.sync.ensures.shown told) (c.sync.ensures.stored told)
     (ap (λ (h : Head). h.dirty) c.head_of.ensures.head) (ap (λ (h : Head). h.empty) c.head_of.ensures.head) (ap (λ (h : Head). h.format) c.head_of.ensures.head) fits (ok told fits.newest fits.later fits.past fits.fit))
     c.sync.ensures.ok
 
 pub returns-clause-err : goal.returns-clause-err
 returns-clause-err g c =
     on_err_as c.sync.result _ _
-    (λ err told text syncs fits. failed_fits c.args.self.now _ c.head_of.result c.args.dirty _ (g.F.World.scene c.sync.new.host).folder (record { text = text; format = c.args.format }) syncs refl (ap (λ (m : MemPages). state_of m) c.sync.ensures.pages)
+    (λ err told text syncs fits. failed_fits c.args.self.now _ c.head_of.result c.args.dirty _ (g.F.World.scene c.sync.new.host).folder (record { text = text; format = c.args.format }) syncs refl (c.sync.ensures.shown told) (c.sync.ensures.stored told)
     (ap (λ (h : Head). h.dirty) c.head_of.ensures.head) (ap (λ (h : Head). h.empty) c.head_of.ensures.head) (ap (λ (h : Head). h.format) c.head_of.ensures.head) fits (err told fits.newest fits.later fits.past fits.fit))
     c.sync.ensures.err
 

@@ -21,13 +21,13 @@ invariant_of-self-2-clause-undo c =
     (record {
       inside = omega (arith, c.patch.ensures.places, written_within c.args.self.now.table.places.items c.args.at c.requires.written);
       within = omega (arith, c.in_ok-was.ensures.len, c.requires.within);
-      written = patch_written old _ c.args.at c.args.from c.args.bytes.now c.patch.ensures.map c.requires.written c.requires.within;
+      written = patch_written old _ c.args.at c.args.from c.args.bytes.now c.patch.ensures.cells c.requires.written c.requires.within;
     })
-    (patch_back old _ c.args.at c.args.from c.args.bytes.now c.patch.ensures.map c.requires.written c.requires.within c.in_ok-was.was'.items c.in_ok-was.ensures.len c.in_ok-was.ensures.bytes)
+    (patch_back old _ c.args.at c.args.from c.args.bytes.now c.patch.ensures.cells c.requires.written c.requires.within c.in_ok-was.was'.items c.in_ok-was.ensures.len c.in_ok-was.ensures.bytes)
     c.patch.ensures.places c.args.self.now.undo
 
 pub invariant_of-self-2-clause-ends : goal.invariant_of-self-2-clause-ends
-invariant_of-self-2-clause-ends c = end_patched _ _ _ c.args.at c.args.from c.args.bytes.now c.patch.ensures.map c.args.self.now.ends
+invariant_of-self-2-clause-ends c = end_patched _ _ _ c.args.at c.args.from c.args.bytes.now c.patch.ensures.cells c.args.self.now.ends
 
 pub invariant_of-self-2-clause-no_gaps : goal.invariant_of-self-2-clause-no_gaps
 invariant_of-self-2-clause-no_gaps c =
@@ -36,8 +36,8 @@ invariant_of-self-2-clause-no_gaps c =
     let log = pushed (is_ok c.push.result) c.reserve.new.self.items c.push.new.self.items (kinds.Patch patch) c.push.ensures.items (c.push.ensures.succeeds (omega (arith, c.in_ok-reserve.ensures.ok)))
     ∙ ap (λ (cs : List Change). cs ++ kinds.Patch patch ∷ []) c.reserve.ensures.items in
     gaps_more _ old (kinds.Patch patch) _ _ (reverse_last c.push.new.self.items c.args.self.now.log.items (kinds.Patch patch) log)
-    (patch_back old _ c.args.at c.args.from c.args.bytes.now c.patch.ensures.map c.requires.written c.requires.within c.in_ok-was.was'.items c.in_ok-was.ensures.len c.in_ok-was.ensures.bytes)
-    c.args.self.now.no_gaps (near_patch old _ c.args.at c.args.from c.args.bytes.now (numbers c.args.at 1) c.patch.ensures.map)
+    (patch_back old _ c.args.at c.args.from c.args.bytes.now c.patch.ensures.cells c.requires.written c.requires.within c.in_ok-was.was'.items c.in_ok-was.ensures.len c.in_ok-was.ensures.bytes)
+    c.args.self.now.no_gaps (near_patch old _ c.args.at c.args.from c.args.bytes.now (numbers c.args.at 1) c.patch.ensures.cells)
 
 pub returns-clause-ok : goal.returns-clause-ok
 returns-clause-ok c =
@@ -46,8 +46,8 @@ returns-clause-ok c =
     record {
       change = kinds.Patch patch;
       changes = reverse_last c.push.new.self.items c.args.self.now.log.items (kinds.Patch patch) (c.in_ok-push.ensures.items ∙ ap (λ (cs : List Change). cs ++ kinds.Patch patch ∷ []) c.reserve.ensures.items);
-      was = patch_back old _ c.args.at c.args.from c.args.bytes.now c.patch.ensures.map c.requires.written c.requires.within c.in_ok-was.was'.items c.in_ok-was.ensures.len c.in_ok-was.ensures.bytes;
+      was = patch_back old _ c.args.at c.args.from c.args.bytes.now c.patch.ensures.cells c.requires.written c.requires.within c.in_ok-was.was'.items c.in_ok-was.ensures.len c.in_ok-was.ensures.bytes;
       worked = refl;
-      kept = c.patch.ensures.map;
+      kept = c.patch.ensures.cells;
       commits = refl;
     }

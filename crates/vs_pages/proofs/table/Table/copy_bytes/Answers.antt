@@ -5,8 +5,8 @@ use Rattle.std.proofs.lemmas.List.{take-append-drop}
 use Rattle.std.proofs.lemmas.Result.{IfOk-weaker}
 use Rattle.std.proofs.lemmas.Grind.{common_steps}
 use Rattle.vs_bytes.specs.Fields.{with_field}
-use Rattle.vs_pages.specs.Maps.{patched}
-use Rattle.vs_pages.specs.Table.{bytes_of, map_of}
+use Rattle.vs_pages.specs.Cells.{Kept, Cell, rewritten}
+use Rattle.vs_pages.specs.Table.{cell_of, cells_of}
 use Rattle.vs_pages.specs.declared.page.Page.{Page}
 use Rattle.vs_pages.specs.declared.page.Page.TheVariants.{Written}
 use Rattle.vs_pages.proofs.MapsLemmas.{drop-drop}
@@ -28,9 +28,9 @@ returns-clause-bytes c =
     let from : ℕ = c.args.from in
     let count : ℕ = c.args.count in
     let inner : c.in-Some-Written.field-0.now ≡ Written c.in-Some-Written.buffer = search rules in
-    let kept : Some page ≡ map_of c.args.self.now.places.items c.args.at = ap (λ (p : Page). bytes_of (Some p)) (sym inner) ∙ c.in-Some-Written.ensures in
+    let kept : Some (Kept page) ≡ cells_of c.args.self.now.places.items c.args.at = ap (λ (p : Page). cell_of (Some p)) (sym inner) ∙ c.in-Some-Written.ensures in
     let size : from + count - from ≡ count = omega arith in
     IfOk-weaker c.from_slice.result _ _ (λ (bytes : Vec ℕ Global) is.
     let part : bytes.items ≡ take count (drop from page) = is ∙ ap (λ n. take n (drop from c.deref.result.now)) size ∙ ap (λ (b : List ℕ). take count (drop from b)) c.deref.ensures.value in
-    sym kept ∙ ap (λ (b : List ℕ). Some b) (sym (itself page from count (omega (arith, c.requires.within, c.in-Some-Written.buffer.size))))
-    ∙ ap (λ (b : List ℕ). Some (with_field page from b)) (sym part) ∙ ap (λ (v : Option (List ℕ)). patched v from bytes.items) kept) c.from_slice.ensures.items
+    sym kept ∙ ap (λ (b : List ℕ). Some (Kept b)) (sym (itself page from count (omega (arith, c.requires.within, c.in-Some-Written.buffer.size))))
+    ∙ ap (λ (b : List ℕ). Some (Kept (with_field page from b))) (sym part) ∙ ap (λ (v : Option Cell). rewritten v from bytes.items) kept) c.from_slice.ensures.items

@@ -1,160 +1,66 @@
-use Rattle.std.proofs.Common.{◌≡◌, ℕ, ◌+◌, ◌∙◌, refl, sym, subst, ap}
-use Rattle.std.specs.Prelude.{[], ◌∷◌}
-use Rattle.vs_host.specs.File.{Leaves}
-use Rattle.vs_host.specs.Disk.{ChangesFile, Name}
-use Rattle.vs_pages.specs.Memory.{commits_of, committed_of}
-use Rattle.vs_pair.specs.declared.gate.Gate.{Gate}
-use Rattle.vs_pair.specs.declared.gate.Gate.TheVariants.{Open}
-use Rattle.vs_pair.specs.declared.side.Side.{Side}
-use Rattle.vs_pair.specs.Swap.{Body, body_of, Fits, Holds, Lengthens, SyncStep, FailedSync}
-use Rattle.vs_pair.specs.Pair.{Known, known_of, sync_of, name_of, other_side, IsFit, Syncing}
-use Rattle.vs_pair.specs.Acts.{Acts}
-use Rattle.vs_pair.specs.Stale.{SparesFresh}
-use Rattle.vs_pair.proofs.Acts.{acts_as}
+use Rattle.std.proofs.Common.{refl, sym, subst}
+use Rattle.std.specs.Prelude.{◌∷◌}
+use Rattle.vs_pair.specs.declared.cache.Cache.{Cache}
+use Rattle.vs_pair.specs.Cached.{IsCacheOf, was_away}
+use Rattle.vs_pair.specs.Pair.{away_of, sync_of}
 use Rattle.vs_pair.proofs.Bounds.{behind_calls, few_calls}
 use Rattle.vs_pair.proofs.Calls.{on_err_from}
-use Rattle.vs_pair.proofs.FitLemmas.{body_is, moved, moved_has, syncing, there, failed, done, rises, none_rises, above_newest}
+use Rattle.vs_pair.proofs.Turns.{after_turn, after_fault}
 use Rattle.vs_pair.proofs.pair.SwapPair.sync.Goals as goal
 
-pub sync_file-requires-clause-fits : goal.sync_file-requires-clause-fits
-sync_file-requires-clause-fits g c told =
-    let fits = c.requires.fits told in
-    let name = c.swap_name-name.ensures ∙ ap (λ (s : Side). name_of c.args.self.now.files.names s) c.other-older.ensures in (
-      body_of c.args.self.now.files.names.file fits.3.older_sync,
-      moved_has (name_of c.args.self.now.files.names (other_side c.args.self.now.files.newer)) c.swap_name-name.result.now (sym name) _ _ refl (Fits c.args.self.now.files.gate) _
-          (there (known_of c.args.self.now (g.F.World.scene c.args.host.now).folder) fits.0 fits.1 fits.2 _ fits.3 (sync_of c.args.self.now (g.F.World.scene c.args.host.now).folder c.args.head.now) refl c.requires.room),
-      fits.3.older_keeps,
-    )
+pub write_older-requires-clause-backed : goal.write_older-requires-clause-backed
+write_older-requires-clause-backed g c told = (c.requires.stored told).backed
 
-pub returns-in_err-sync_file-clause-acts : goal.returns-in_err-sync_file-clause-acts
-returns-in_err-sync_file-clause-acts g c =
-    let files : Known = known_of c.args.self.now (g.F.World.scene c.args.host.now).folder in
-    let name = c.swap_name-name.ensures ∙ ap (λ (s : Side). name_of files.names s) c.other-older.ensures in
-    let body : Body = record { first = c.page_zero-first.result; pages = committed_of c.args.self.now.pages } in
-    let same : body ≡ body_of files.names.file (sync_of c.args.self.now (g.F.World.scene c.args.host.now).folder c.args.head.now) =
-    body_is files.names.file (sync_of c.args.self.now (g.F.World.scene c.args.host.now).folder c.args.head.now) c.as_str.result.now c.page_zero-first.result c.as_str.ensures c.page_zero-first.ensures.page in
-    acts_as g.F.World.tells (ChangesFile c.swap_name-name.result.now (SyncStep files.gate body)) (Syncing files (sync_of c.args.self.now (g.F.World.scene c.args.host.now).folder c.args.head.now)) _ _
-    (λ told d changes. syncing files (sync_of c.args.self.now (g.F.World.scene c.args.host.now).folder c.args.head.now) _ d refl c.requires.room (g.F.World.is_folder c.args.host.now told)
-    (moved c.swap_name-name.result.now (name_of files.names (other_side files.newer)) name body _ same (SyncStep files.gate) _ d changes))
-    c.sync_file.ensures.acts
-
-pub returns-in_err-sync_file-clause-err : goal.returns-in_err-sync_file-clause-err
-returns-in_err-sync_file-clause-err g c =
-    let files : Known = known_of c.args.self.now (g.F.World.scene c.args.host.now).folder in
-    let name = c.swap_name-name.ensures ∙ ap (λ (s : Side). name_of files.names s) c.other-older.ensures in
-    let body : Body = record { first = c.page_zero-first.result; pages = committed_of c.args.self.now.pages } in
-    let same : body ≡ body_of files.names.file (sync_of c.args.self.now (g.F.World.scene c.args.host.now).folder c.args.head.now) =
-    body_is files.names.file (sync_of c.args.self.now (g.F.World.scene c.args.host.now).folder c.args.head.now) c.as_str.result.now c.page_zero-first.result c.as_str.ensures c.page_zero-first.ensures.page in
+pub returns-in_err-write_older-clause-err : goal.returns-in_err-write_older-clause-err
+returns-in_err-write_older-clause-err g c =
     on_err_from c.from_residual.result _
     (λ told newest begun past fit.
-    failed files newest begun past _ fit (sync_of c.args.self.now (g.F.World.scene c.args.host.now).folder c.args.head.now) refl c.requires.room c.sync_file.new.gate _
-    (moved c.swap_name-name.result.now (name_of files.names (other_side files.newer)) name body _ same (FailedSync files.gate c.sync_file.new.gate) _ _ (c.in_err-sync_file.ensures.failed told)))
+    (after_fault c.args.self.now c.write_older.new.self (g.F.World.scene c.args.host.now).folder (g.F.World.scene c.write_older.new.host).folder c.write_older.ensures.pages c.write_older.ensures.cache (c.in_err-write_older.ensures.away told)).fits newest _ past (c.in_err-write_older.ensures.err told newest begun past fit))
 
-pub returns-in_err-sync_file-clause-stays : goal.returns-in_err-sync_file-clause-stays
-returns-in_err-sync_file-clause-stays g c =
-    let files : Known = known_of c.args.self.now (g.F.World.scene c.args.host.now).folder in
-    let name = c.swap_name-name.ensures ∙ ap (λ (s : Side). name_of files.names s) c.other-older.ensures in
-    let body : Body = record { first = c.page_zero-first.result; pages = committed_of c.args.self.now.pages } in
-    let same : body ≡ body_of files.names.file (sync_of c.args.self.now (g.F.World.scene c.args.host.now).folder c.args.head.now) =
-    body_is files.names.file (sync_of c.args.self.now (g.F.World.scene c.args.host.now).folder c.args.head.now) c.as_str.result.now c.page_zero-first.result c.as_str.ensures c.page_zero-first.ensures.page in
-    on_err_from c.from_residual.result _
-    (λ told newest begun past fit document is.
-    none_rises _ newest (sync_of c.args.self.now (g.F.World.scene c.args.host.now).folder c.args.head.now ∷ begun) past _
-    (failed files newest begun past _ fit (sync_of c.args.self.now (g.F.World.scene c.args.host.now).folder c.args.head.now) refl c.requires.room c.sync_file.new.gate _
-    (moved c.swap_name-name.result.now (name_of files.names (other_side files.newer)) name body _ same (FailedSync files.gate c.sync_file.new.gate) _ _ (c.in_err-sync_file.ensures.failed told)))
-    (g.F.World.scene c.args.host.now).folder (above_newest files newest begun past _ fit document is))
+pub returns-in_err-write_older-clause-stays : goal.returns-in_err-write_older-clause-stays
+returns-in_err-write_older-clause-stays g c = on_err_from c.from_residual.result _ c.in_err-write_older.ensures.stays
 
-pub returns-clause-acts : goal.returns-clause-acts
-returns-clause-acts g c =
-    let files : Known = known_of c.args.self.now (g.F.World.scene c.args.host.now).folder in
-    let name = c.swap_name-name.ensures ∙ ap (λ (s : Side). name_of files.names s) c.other-older.ensures in
-    let body : Body = record { first = c.page_zero-first.result; pages = committed_of c.args.self.now.pages } in
-    let same : body ≡ body_of files.names.file (sync_of c.args.self.now (g.F.World.scene c.args.host.now).folder c.args.head.now) =
-    body_is files.names.file (sync_of c.args.self.now (g.F.World.scene c.args.host.now).folder c.args.head.now) c.as_str.result.now c.page_zero-first.result c.as_str.ensures c.page_zero-first.ensures.page in
-    acts_as g.F.World.tells (ChangesFile c.swap_name-name.result.now (SyncStep files.gate body)) (Syncing files (sync_of c.args.self.now (g.F.World.scene c.args.host.now).folder c.args.head.now)) _ _
-    (λ told d changes. syncing files (sync_of c.args.self.now (g.F.World.scene c.args.host.now).folder c.args.head.now) _ d refl c.requires.room (g.F.World.is_folder c.args.host.now told)
-    (moved c.swap_name-name.result.now (name_of files.names (other_side files.newer)) name body _ same (SyncStep files.gate) _ d changes))
-    c.sync_file.ensures.acts
+pub returns-in_err-write_older-clause-stored : goal.returns-in_err-write_older-clause-stored
+returns-in_err-write_older-clause-stored g c told =
+    (after_fault c.args.self.now c.write_older.new.self (g.F.World.scene c.args.host.now).folder (g.F.World.scene c.write_older.new.host).folder c.write_older.ensures.pages c.write_older.ensures.cache (c.in_err-write_older.ensures.away told)).stored (c.requires.stored told)
 
-pub returns-clause-ok : goal.returns-clause-ok
-returns-clause-ok g c told newest begun past fit =
-    let files : Known = known_of c.args.self.now (g.F.World.scene c.args.host.now).folder in
-    let name = c.swap_name-name.ensures ∙ ap (λ (s : Side). name_of files.names s) c.other-older.ensures in
-    let body : Body = record { first = c.page_zero-first.result; pages = committed_of c.args.self.now.pages } in
-    let same : body ≡ body_of files.names.file (sync_of c.args.self.now (g.F.World.scene c.args.host.now).folder c.args.head.now) =
-    body_is files.names.file (sync_of c.args.self.now (g.F.World.scene c.args.host.now).folder c.args.head.now) c.as_str.result.now c.page_zero-first.result c.as_str.ensures c.page_zero-first.ensures.page in
-    let now : Side → Gate → ℕ → Known = λ side gate commits. record files {
-      newer = side;
-      gate = gate;
-      generation = files.generation + 1;
-      newer_has = record { commits = commits; end = c.committed_end.result };
-      older_has = files.newer_has;
-    } in
-    let after : IsFit (now (other_side files.newer) Open files.pages.commits.count) (g.F.World.scene c.sync_file.new.host).folder (sync_of c.args.self.now (g.F.World.scene c.args.host.now).folder c.args.head.now) [] (newest ∷ past) =
-    done files newest begun past _ fit (sync_of c.args.self.now (g.F.World.scene c.args.host.now).folder c.args.head.now) refl c.requires.room (SyncStep files.gate (body_of files.names.file (sync_of c.args.self.now (g.F.World.scene c.args.host.now).folder c.args.head.now))) _
-    (moved c.swap_name-name.result.now (name_of files.names (other_side files.newer)) name body _ same (SyncStep files.gate) _ _ (c.sync_file.ensures.acts.runs told).now)
-    (moved_has c.swap_name-name.result.now (name_of files.names (other_side files.newer)) name body _ same (λ b file. Leaves file (Holds b)) _ (c.in_ok-sync_file.ensures.stands told))
-    c.committed_end.result refl c.committed_end.ensures.past c.committed_end.ensures.last in
-    subst (λ (s : Side). IsFit (now s c.sync_file.new.gate c.commits.result) (g.F.World.scene c.sync_file.new.host).folder (sync_of c.args.self.now (g.F.World.scene c.args.host.now).folder c.args.head.now) [] (newest ∷ past))
-    (sym c.other-older.ensures)
-    (subst (λ (h : Gate). IsFit (now (other_side files.newer) h c.commits.result) (g.F.World.scene c.sync_file.new.host).folder (sync_of c.args.self.now (g.F.World.scene c.args.host.now).folder c.args.head.now) [] (newest ∷ past))
-    (sym c.in_ok-sync_file.ensures.opened)
-    (subst (λ (n : ℕ). IsFit (now (other_side files.newer) Open n) (g.F.World.scene c.sync_file.new.host).folder (sync_of c.args.self.now (g.F.World.scene c.args.host.now).folder c.args.head.now) [] (newest ∷ past)) (sym c.commits.ensures) after))
+pub returns-in_err-write_older-clause-shown : goal.returns-in_err-write_older-clause-shown
+returns-in_err-write_older-clause-shown g c told =
+    (after_fault c.args.self.now c.write_older.new.self (g.F.World.scene c.args.host.now).folder (g.F.World.scene c.write_older.new.host).folder c.write_older.ensures.pages c.write_older.ensures.cache (c.in_err-write_older.ensures.away told)).shown
 
-pub returns-in_err-sync_file-clause-spared : goal.returns-in_err-sync_file-clause-spared
-returns-in_err-sync_file-clause-spared g c =
-    subst (λ (n : Name). Acts g.F.World.tells (ChangesFile n (SparesFresh (commits_of c.args.self.now.pages) c.args.self.now.files.older_has)) (g.F.World.scene c.args.host.now) (g.F.World.scene c.sync_file.new.host))
-    (c.swap_name-name.ensures ∙ ap (λ (s : Side). name_of c.args.self.now.files.names s) c.other-older.ensures) c.sync_file.ensures.spared
-
-pub returns-clause-spared : goal.returns-clause-spared
-returns-clause-spared g c =
-    subst (λ (n : Name). Acts g.F.World.tells (ChangesFile n (SparesFresh (commits_of c.args.self.now.pages) c.args.self.now.files.older_has)) (g.F.World.scene c.args.host.now) (g.F.World.scene c.sync_file.new.host))
-    (c.swap_name-name.ensures ∙ ap (λ (s : Side). name_of c.args.self.now.files.names s) c.other-older.ensures) c.sync_file.ensures.spared
-
-pub returns-clause-grown : goal.returns-clause-grown
-returns-clause-grown g c told =
-    subst (λ (n : Name). ChangesFile n (Lengthens (committed_of c.args.self.now.pages)) (g.F.World.scene c.args.host.now).folder (g.F.World.scene c.sync_file.new.host).folder)
-    (c.swap_name-name.ensures ∙ ap (λ (s : Side). name_of c.args.self.now.files.names s) c.other-older.ensures) (c.in_ok-sync_file.ensures.grown told)
-
-pub returns-clause-rises : goal.returns-clause-rises
-returns-clause-rises g c told document is =
-    let files : Known = known_of c.args.self.now (g.F.World.scene c.args.host.now).folder in
-    let fits = c.requires.fits told in
-    let name = c.swap_name-name.ensures ∙ ap (λ (s : Side). name_of files.names s) c.other-older.ensures in
-    let body : Body = record { first = c.page_zero-first.result; pages = committed_of c.args.self.now.pages } in
-    let same : body ≡ body_of files.names.file (sync_of c.args.self.now (g.F.World.scene c.args.host.now).folder c.args.head.now) =
-    body_is files.names.file (sync_of c.args.self.now (g.F.World.scene c.args.host.now).folder c.args.head.now) c.as_str.result.now c.page_zero-first.result c.as_str.ensures c.page_zero-first.ensures.page in
-    rises files fits.0 fits.1 fits.2 _ fits.3 (sync_of c.args.self.now (g.F.World.scene c.args.host.now).folder c.args.head.now) refl c.requires.room (SyncStep files.gate (body_of files.names.file (sync_of c.args.self.now (g.F.World.scene c.args.host.now).folder c.args.head.now))) _
-    (moved c.swap_name-name.result.now (name_of files.names (other_side files.newer)) name body _ same (SyncStep files.gate) _ _ (c.sync_file.ensures.acts.runs told).now)
-    (moved_has c.swap_name-name.result.now (name_of files.names (other_side files.newer)) name body _ same (λ b file. Leaves file (Holds b)) _ (c.in_ok-sync_file.ensures.stands told)) document is
-
-pub returns-in_err-sync_file-clause-calls : goal.returns-in_err-sync_file-clause-calls
-returns-in_err-sync_file-clause-calls g c = c.sync_file.ensures.calls
-
-pub returns-clause-calls : goal.returns-clause-calls
-returns-clause-calls g c = c.sync_file.ensures.calls
-
-pub returns-in_err-sync_file-clause-few : goal.returns-in_err-sync_file-clause-few
-returns-in_err-sync_file-clause-few g c =
-    few_calls g.F.World.tells (g.F.World.scene c.args.host.now) (g.F.World.scene c.sync_file.new.host) c.args.self.now.pages c.args.self.now.files.older_has (λ told. (c.requires.fits told).3.older_keeps.reach) c.sync_file.ensures.calls
+pub returns-in_err-write_older-clause-few : goal.returns-in_err-write_older-clause-few
+returns-in_err-write_older-clause-few g c =
+    few_calls g.F.World.tells (g.F.World.scene c.args.host.now) (g.F.World.scene c.write_older.new.host) (away_of c.args.self.now.files (g.F.World.scene c.args.host.now).folder) c.args.self.now.pages c.args.self.now.files.older_has
+    (λ told. (c.requires.stored told).backed) (λ told. (c.requires.fits told).3.older_keeps.reach) c.write_older.ensures.works
 
 pub returns-clause-few : goal.returns-clause-few
 returns-clause-few g c =
-    few_calls g.F.World.tells (g.F.World.scene c.args.host.now) (g.F.World.scene c.sync_file.new.host) c.args.self.now.pages c.args.self.now.files.older_has (λ told. (c.requires.fits told).3.older_keeps.reach) c.sync_file.ensures.calls
+    few_calls g.F.World.tells (g.F.World.scene c.args.host.now) (g.F.World.scene c.write_older.new.host) (away_of c.args.self.now.files (g.F.World.scene c.args.host.now).folder) c.args.self.now.pages c.args.self.now.files.older_has
+    (λ told. (c.requires.stored told).backed) (λ told. (c.requires.fits told).3.older_keeps.reach) c.write_older.ensures.works
 
-pub returns-in_err-sync_file-clause-behind : goal.returns-in_err-sync_file-clause-behind
-returns-in_err-sync_file-clause-behind g c =
-    behind_calls g.F.World.tells (g.F.World.scene c.args.host.now) (g.F.World.scene c.sync_file.new.host) c.args.self.now.pages c.args.self.now.files.older_has (λ told. (c.requires.fits told).3.older_keeps.reach) c.sync_file.ensures.calls
+pub returns-in_err-write_older-clause-behind : goal.returns-in_err-write_older-clause-behind
+returns-in_err-write_older-clause-behind g c =
+    behind_calls g.F.World.tells (g.F.World.scene c.args.host.now) (g.F.World.scene c.write_older.new.host) (away_of c.args.self.now.files (g.F.World.scene c.args.host.now).folder) c.args.self.now.pages c.args.self.now.files.older_has
+    (λ told. (c.requires.stored told).backed) (λ told. (c.requires.fits told).3.older_keeps.reach) c.write_older.ensures.works
 
 pub returns-clause-behind : goal.returns-clause-behind
 returns-clause-behind g c =
-    behind_calls g.F.World.tells (g.F.World.scene c.args.host.now) (g.F.World.scene c.sync_file.new.host) c.args.self.now.pages c.args.self.now.files.older_has (λ told. (c.requires.fits told).3.older_keeps.reach) c.sync_file.ensures.calls
+    behind_calls g.F.World.tells (g.F.World.scene c.args.host.now) (g.F.World.scene c.write_older.new.host) (away_of c.args.self.now.files (g.F.World.scene c.args.host.now).folder) c.args.self.now.pages c.args.self.now.files.older_has
+    (λ told. (c.requires.stored told).backed) (λ told. (c.requires.fits told).3.older_keeps.reach) c.write_older.ensures.works
 
-pub returns-clause-turned : goal.returns-clause-turned
-returns-clause-turned g c = refl
+pub returns-clause-ok : goal.returns-clause-ok
+returns-clause-ok g c told newest begun past fit =
+    (after_turn (away_of c.args.self.now.files (g.F.World.scene c.args.host.now).folder) c.args.self.now.pages c.write_older.new.self c.send_pages.new.pages c.write_older.new.self.cache c.send_pages.new.cache _ (sync_of c.args.self.now (g.F.World.scene c.args.host.now).folder c.args.head.now) (newest ∷ past) c.write_older.ensures.pages (c.requires.stored told).backed refl
+    (c.in_ok-write_older.ensures.ok told newest begun past fit) c.send_pages.ensures.same (subst (λ (kept : Cache). IsCacheOf (was_away c.args.self.now.pages) (away_of c.args.self.now.files (g.F.World.scene c.args.host.now).folder) kept) (sym c.write_older.ensures.cache) (c.requires.stored told).cached) c.send_pages.ensures.cached).fits
 
-pub returns-clause-commits : goal.returns-clause-commits
-returns-clause-commits g c = c.commits.ensures
+pub returns-clause-stored : goal.returns-clause-stored
+returns-clause-stored g c told =
+    let fits = c.requires.fits told in
+    (after_turn (away_of c.args.self.now.files (g.F.World.scene c.args.host.now).folder) c.args.self.now.pages c.write_older.new.self c.send_pages.new.pages c.write_older.new.self.cache c.send_pages.new.cache _ (sync_of c.args.self.now (g.F.World.scene c.args.host.now).folder c.args.head.now) (fits.0 ∷ fits.2) c.write_older.ensures.pages (c.requires.stored told).backed refl
+    (c.in_ok-write_older.ensures.ok told fits.0 fits.1 fits.2 fits.3) c.send_pages.ensures.same (subst (λ (kept : Cache). IsCacheOf (was_away c.args.self.now.pages) (away_of c.args.self.now.files (g.F.World.scene c.args.host.now).folder) kept) (sym c.write_older.ensures.cache) (c.requires.stored told).cached) c.send_pages.ensures.cached).stored
 
-pub returns-clause-ended : goal.returns-clause-ended
-returns-clause-ended g c = c.committed_end.ensures.past
+pub returns-clause-shown : goal.returns-clause-shown
+returns-clause-shown g c told =
+    let fits = c.requires.fits told in
+    (after_turn (away_of c.args.self.now.files (g.F.World.scene c.args.host.now).folder) c.args.self.now.pages c.write_older.new.self c.send_pages.new.pages c.write_older.new.self.cache c.send_pages.new.cache _ (sync_of c.args.self.now (g.F.World.scene c.args.host.now).folder c.args.head.now) (fits.0 ∷ fits.2) c.write_older.ensures.pages (c.requires.stored told).backed refl
+    (c.in_ok-write_older.ensures.ok told fits.0 fits.1 fits.2 fits.3) c.send_pages.ensures.same (subst (λ (kept : Cache). IsCacheOf (was_away c.args.self.now.pages) (away_of c.args.self.now.files (g.F.World.scene c.args.host.now).folder) kept) (sym c.write_older.ensures.cache) (c.requires.stored told).cached) c.send_pages.ensures.cached).shown

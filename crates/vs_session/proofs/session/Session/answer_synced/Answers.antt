@@ -1,4 +1,4 @@
-use Rattle.std.proofs.Common.{◌∷◌, true, false, refl, sym, ap, ◌∙◌}
+use Rattle.std.proofs.Common.{◌≡◌, ◌∷◌, true, false, refl, sym, ap, ◌∙◌}
 use Rattle.std.proofs.lemmas.Bool.{true≢false}
 use Rattle.vs_exparse.specs.Command.{result_of}
 use Rattle.vs_machine.specs.declared.command.Outcome.TheVariants.{Fault}
@@ -7,9 +7,9 @@ use Rattle.vs_session.specs.Session.{after_sync, is_write, sync_in, uses_files}
 use Rattle.vs_session.proofs.SessionLemmas.{quits_is, begins_is}
 use Rattle.vs_session.proofs.Steps.{answers_synced, answers_failed}
 use Rattle.vs_machine.specs.Answers.{meaning_at}
-use Rattle.vs_session.specs.Work.{work_in}
-use Rattle.vs_session.proofs.WorkLemmas.{works_synced}
-use Rattle.vs_host.specs.World.{Scene}
+use Rattle.vs_session.proofs.WorkLemmas.{synced_work, works_synced}
+use Rattle.vs_disk.proofs.Runs.{goes_none, starts}
+use Rattle.vs_host.specs.Trace.{Read}
 use Rattle.vs_session.proofs.SwapSyncs.{syncs_first}
 use Rattle.vs_session.proofs.session.Session.answer_synced.Goals as goal
 
@@ -40,11 +40,13 @@ returns-in-Err-clause-step g c told state syncs instruction fits is =
 
 pub returns-in-Ok-clause-works : goal.returns-in-Ok-clause-works
 returns-in-Ok-clause-works g c told state syncs instruction fits is =
-    works_synced c.carry_out-outcome.result.0 state.machine (meaning_at state.machine instruction) c.args.self.now c.sync.new.self c.carry_out-outcome.new.self c.in-Ok.ensures.pages c.in-Ok.ensures.tree
+    works_synced c.carry_out-outcome.result.0 state.machine (meaning_at state.machine instruction) c.args.self.now c.sync.new.self c.carry_out-outcome.new.self
+    (synced_work c.args.self.now.text.pair c.sync.new.self.text.pair (g.F.World.scene c.args.host.now).folder (g.F.World.scene c.sync.new.host).folder (c.in-Ok.ensures.shown told)) c.in-Ok.ensures.tree
     (c.carry_out-outcome.ensures.works told (after_sync state true) (sync_in state true ∷ syncs) instruction (c.in-Ok.ensures.ok told state syncs fits) is)
 
 pub returns-in-Err-clause-works : goal.returns-in-Err-clause-works
-returns-in-Err-clause-works g c told state syncs instruction fits is = ap work_in c.in-Err.ensures.pages
+returns-in-Err-clause-works g c told state syncs instruction fits is =
+    synced_work c.args.self.now.text.pair c.sync.new.self.text.pair (g.F.World.scene c.args.host.now).folder (g.F.World.scene c.sync.new.host).folder (c.in-Err.ensures.shown told)
 
 pub returns-in-Ok-clause-behind : goal.returns-in-Ok-clause-behind
 returns-in-Ok-clause-behind g c =
@@ -53,13 +55,14 @@ returns-in-Ok-clause-behind g c =
     (record {
       synced = g.F.World.scene c.sync.new.host;
       acknowledged = true;
-      calls = c.sync.ensures.behind;
+      works = c.sync.ensures.behind;
       between = c.sync.new.self.text.pair;
-      pages = c.in-Ok.ensures.pages;
+      shown = c.in-Ok.ensures.shown;
+      commits = c.in-Ok.ensures.commits;
       turns = c.in-Ok.ensures.turns;
       known = c.carry_out-outcome.ensures.kept.known;
       failed = λ is. absurd (true≢false is);
-      rest = λ plain told. ap (λ (s : Scene). s.trace) (c.carry_out-outcome.ensures.still told);
+      rest = λ plain told. (c.carry_out-outcome.ensures.kept.looks told, c.carry_out-outcome.ensures.reads told);
     })
 
 pub returns-in-Err-clause-behind : goal.returns-in-Err-clause-behind
@@ -69,11 +72,14 @@ returns-in-Err-clause-behind g c =
     (record {
       synced = g.F.World.scene c.sync.new.host;
       acknowledged = false;
-      calls = c.sync.ensures.behind;
+      works = c.sync.ensures.behind;
       between = c.sync.new.self.text.pair;
-      pages = c.in-Err.ensures.pages;
+      shown = c.in-Err.ensures.shown;
+      commits = c.in-Err.ensures.commits;
       turns = c.in-Err.ensures.turns;
       known = record { newer = refl; older = refl };
       failed = λ is. refl;
-      rest = λ plain told. refl;
+      rest = λ plain told.
+          let synced = g.F.World.scene c.sync.new.host in
+          (starts (λ a b. b ≡ a) synced refl, goes_none (λ m. m.kind ≡ Read) synced.trace);
     })

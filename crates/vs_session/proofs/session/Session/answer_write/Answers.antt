@@ -3,7 +3,7 @@ use Rattle.std.proofs.lemmas.Bool.{true≢false}
 use Rattle.vs_session.specs.Session.{after_sync, sync_in}
 use Rattle.vs_session.proofs.Steps.{answers_failed}
 use Rattle.vs_session.proofs.WriteCommand.{begins_is, never_quits}
-use Rattle.vs_session.specs.Work.{work_in}
+use Rattle.vs_session.proofs.WorkLemmas.{synced_work}
 use Rattle.vs_session.proofs.session.Session.answer_write.Goals as goal
 
 pub write_files-outcome-requires : goal.write_files-outcome-requires
@@ -37,18 +37,22 @@ returns-in-Err-clause-step g c told state syncs instruction fits is =
     (c.in-Err.ensures.cause.risen refl) c.device_fault.ensures (c.in-Err.ensures.stays told) (c.in-Err.ensures.err told state syncs fits)
 
 pub returns-in-Ok-clause-works : goal.returns-in-Ok-clause-works
-returns-in-Ok-clause-works g c told = c.write_files-outcome.ensures.works told ∙ ap work_in c.in-Ok.ensures.pages
+returns-in-Ok-clause-works g c told =
+    c.write_files-outcome.ensures.works told
+    ∙ synced_work c.args.self.now.text.pair c.sync.new.self.text.pair (g.F.World.scene c.args.host.now).folder (g.F.World.scene c.sync.new.host).folder (c.in-Ok.ensures.shown told)
 
 pub returns-in-Err-clause-works : goal.returns-in-Err-clause-works
-returns-in-Err-clause-works g c told = ap work_in c.in-Err.ensures.pages
+returns-in-Err-clause-works g c told =
+    synced_work c.args.self.now.text.pair c.sync.new.self.text.pair (g.F.World.scene c.args.host.now).folder (g.F.World.scene c.sync.new.host).folder (c.in-Err.ensures.shown told)
 
 pub returns-in-Ok-clause-behind : goal.returns-in-Ok-clause-behind
 returns-in-Ok-clause-behind g c = record {
   synced = g.F.World.scene c.sync.new.host;
   acknowledged = true;
-  calls = c.sync.ensures.behind;
+  works = c.sync.ensures.behind;
   between = c.sync.new.self.text.pair;
-  pages = c.in-Ok.ensures.pages;
+  shown = c.in-Ok.ensures.shown;
+  commits = c.in-Ok.ensures.commits;
   turns = c.in-Ok.ensures.turns;
   known = c.write_files-outcome.ensures.kept.known;
   failed = λ is. absurd (true≢false is);
@@ -59,9 +63,10 @@ pub returns-in-Err-clause-behind : goal.returns-in-Err-clause-behind
 returns-in-Err-clause-behind g c = record {
   synced = g.F.World.scene c.sync.new.host;
   acknowledged = false;
-  calls = c.sync.ensures.behind;
+  works = c.sync.ensures.behind;
   between = c.sync.new.self.text.pair;
-  pages = c.in-Err.ensures.pages;
+  shown = c.in-Err.ensures.shown;
+  commits = c.in-Err.ensures.commits;
   turns = c.in-Err.ensures.turns;
   known = record { newer = refl; older = refl };
   failed = λ is. refl;

@@ -1,4 +1,6 @@
-use Rattle.std.proofs.Common.{sym, ap, ◌∙◌, refl}
+use Rattle.std.proofs.Common.{◌≡◌, sym, ap, ◌∙◌, refl}
+use Rattle.vs_host.specs.Trace.{Read}
+use Rattle.vs_disk.proofs.Runs.{goes_none}
 use Rattle.vs_session.specs.Session.{own_reply}
 use Rattle.vs_session.proofs.SessionLemmas.{own_carried, reply_own, reply_machine}
 use Rattle.vs_machine.specs.Answers.{meaning_at}
@@ -21,3 +23,6 @@ returns-in-None-clause-reply g c told state syncs instruction fits is =
 
 pub returns-in-Some-clause-works : goal.returns-in-Some-clause-works
 returns-in-Some-clause-works g c told state syncs instruction fits is = works_nothing Done state.machine (meaning_at state.machine instruction) (most_in c.args.self.now.text.tree) (work_in c.args.self.now.text.pair.pages) _ refl
+
+pub returns-in-Some-clause-reads : goal.returns-in-Some-clause-reads
+returns-in-Some-clause-reads g c told = goes_none (λ m. m.kind ≡ Read) (g.F.World.scene c.args.host.now).trace

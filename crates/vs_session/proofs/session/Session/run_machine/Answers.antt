@@ -85,11 +85,11 @@ returns-in-Err-Failed-clause-kept g c =
     goes_reading g.F.World.tells _ _ c.args.self.now _ (g.F.World.scene c.args.host.now) (g.F.World.scene c.answer_text.new.host) refl refl kept.keeps kept.counts kept.cause
     (λ failed. refl) (λ failed. search rules)
 
-pub returns-in-Ok-clause-still : goal.returns-in-Ok-clause-still
-returns-in-Ok-clause-still g c told = c.in-Ok.ensures.kept.keeps.still told
+pub returns-in-Ok-clause-reads : goal.returns-in-Ok-clause-reads
+returns-in-Ok-clause-reads g c told = c.in-Ok.ensures.kept.keeps.reads told
 
-pub returns-in-Err-NoMemory-clause-still : goal.returns-in-Err-NoMemory-clause-still
-returns-in-Err-NoMemory-clause-still g c told = c.in-Err-NoMemory.ensures.kept.keeps.still told
+pub returns-in-Err-NoMemory-clause-reads : goal.returns-in-Err-NoMemory-clause-reads
+returns-in-Err-NoMemory-clause-reads g c told = c.in-Err-NoMemory.ensures.kept.keeps.reads told
 
-pub returns-in-Err-Failed-clause-still : goal.returns-in-Err-Failed-clause-still
-returns-in-Err-Failed-clause-still g c told = c.in-Err-Failed.ensures.kept.keeps.still told
+pub returns-in-Err-Failed-clause-reads : goal.returns-in-Err-Failed-clause-reads
+returns-in-Err-Failed-clause-reads g c told = c.in-Err-Failed.ensures.kept.keeps.reads told

@@ -29,4 +29,4 @@ returns-clause-works g c =
 pub returns-clause-behind : goal.returns-clause-behind
 returns-clause-behind g c =
     syncs_from g.H.World.tells c.args.request.now c.answer.result c.args.self.now c.answer.new.self (g.H.World.scene c.args.host.now) (g.H.World.scene c.now-at.new.self) (g.H.World.scene c.answer.new.host)
-    (ap (λ (s : Scene). s.trace) c.now-at.ensures.frame) c.answer.ensures.behind
+    (ap (λ (s : Scene). s.trace) c.now-at.ensures.frame) (ap (λ (s : Scene). s.folder) c.now-at.ensures.frame) c.answer.ensures.behind

@@ -1,14 +1,19 @@
 use Rattle.std.proofs.Common.{refl, sym, ◌∙◌}
 use Rattle.vs_session.proofs.SessionLemmas.{fits_again}
-use Rattle.vs_backup.proofs.Counted.{stops_counted}
+use Rattle.vs_ubind.proofs.Loads.{same_handed}
+use Rattle.vs_session.proofs.Calls.{reads_stop}
 use Rattle.vs_session.proofs.SummaryLemmas.{last_is}
 use Rattle.vs_session.proofs.session.Session.summary.Goals as goal
 
-pub returns-in_err-digest-clause-last : goal.returns-in_err-digest-clause-last
-returns-in_err-digest-clause-last g c = let kept = c.digest_text.ensures.kept in (stops_counted g.F.World.tells _ (g.F.World.scene c.args.host.now) (g.F.World.scene c.digest_text.new.host) kept.keeps.frame kept.keeps.counts kept.cause).last
+pub returns-in_err-digest-clause-stops : goal.returns-in_err-digest-clause-stops
+returns-in_err-digest-clause-stops g c =
+    reads_stop g.F.World.tells _ _ _ _ (g.F.World.scene c.args.host.now) (g.F.World.scene c.digest_text.new.host) c.in_err-digest.ensures.kept.keeps c.in_err-digest.ensures.kept.cause
+    (same_handed c.from_residual.result _ _ c.from_residual.ensures.1)
 
-pub returns-clause-last : goal.returns-clause-last
-returns-clause-last g c = let kept = c.digest_text.ensures.kept in (stops_counted g.F.World.tells _ (g.F.World.scene c.args.host.now) (g.F.World.scene c.digest_text.new.host) kept.keeps.frame kept.keeps.counts kept.cause).last
+pub returns-clause-stops : goal.returns-clause-stops
+returns-clause-stops g c =
+    reads_stop g.F.World.tells _ _ _ _ (g.F.World.scene c.args.host.now) (g.F.World.scene c.digest_text.new.host) c.in_ok-digest.ensures.kept.keeps c.in_ok-digest.ensures.kept.cause
+    (λ failed. absurd (cc))
 
 pub returns-clause-summary : goal.returns-clause-summary
 returns-clause-summary g c = λ told state syncs fits.
