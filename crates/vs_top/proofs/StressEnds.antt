@@ -36,9 +36,9 @@ use Rattle.vs_session.specs.Fits.{Fits, names_of}
 use Rattle.vs_session.specs.Made.{LeavesNoneMade, StaysMoved}
 use Rattle.vs_stress.specs.Commands.{stress_commands}
 use Rattle.vs_top.specs.Ending.{ending_in}
-use Rattle.vs_top.specs.History.{Past, any_error}
+use Rattle.vs_top.specs.History.{commands_then, Past, any_error}
 use Rattle.vs_top.specs.Promise.{HasStress, RunsStress, row}
-use Rattle.vs_top.specs.Run.{Did, FaultHasCause, KeepsMarks, IsTimed, OnlyFolder, counts_of, opened_file}
+use Rattle.vs_top.specs.Run.{Did, FaultHasCause, IsTimed, OnlyFolder, counts_of, opened_file}
 use Rattle.vs_top.specs.Stress.{TellsStress, HasStressed, IsBeforeLine, IsStressMoment, IsStressSafe, ReadsText, StressEnds, SumsThen, WritesThen, stress_history, stress_line, stress_name, stress_state, stress_document, stress_turns}
 use Rattle.vs_top.specs.StressCalls.{HasRunTo, StressCalls}
 use Rattle.vs_top.specs.StressTurns.{IsStressTurn, StressTold}
