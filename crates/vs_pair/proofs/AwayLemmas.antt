@@ -1,15 +1,16 @@
 -- Pages that are away: the file that has them, and another one that takes its place.
-use Rattle.std.proofs.Common.{Bool, IsTrue, ◌≡◌, ◌≢◌, inl, inr, ℕ, ◌+◌, ◌-◌, ◌*◌, ◌≤◌, false, List, [], length, take, drop, Option, Some, None, IsSome, is_some, refl, sym, ◌∙◌, ap, subst, arith}
+use Rattle.std.proofs.Common.{Bool, IsTrue, ◌≡◌, ◌≢◌, inl, inr, ℕ, ◌+◌, ◌-◌, ◌*◌, ◌^◌, ◌<◌, ◌≤◌, false, List, [], length, take, drop, Option, Some, None, IsSome, is_some, refl, sym, ◌∙◌, ap, subst, arith}
 use Rattle.std.specs.Prelude.{IfSome, IsSomeAnd}
 use Rattle.std.proofs.lemmas.Bool.{cases_Bool, cases_lt, true≢false}
 use Rattle.std.proofs.lemmas.Bool.Decides.{nat_tests}
+use Rattle.std.proofs.lemmas.List.{drop-drop}
 use Rattle.vs_host.specs.File.{File}
 use Rattle.vs_host.specs.Disk.{Disk, IsFolder, Name, ChangesFile, content_in, names_of, read_under}
 use Rattle.vs_disk.specs.Images.{FileHas}
 use Rattle.vs_disk.specs.Names.{SameAt}
 use Rattle.vs_disk.proofs.Images.{read_image}
 use Rattle.vs_disk.proofs.Steps.{same_at}
-use Rattle.vs_pages.specs.Cells.{Away, Kept, Cells, is_away, put_cell, AreThere}
+use Rattle.vs_pages.specs.Cells.{Cell, Away, Kept, Cells, is_away, put_cell, shown, AreThere}
 use Rattle.vs_pages.specs.History.{first_of}
 use Rattle.vs_pages.specs.Maps.{Map, joined, no_pages, pages_at, put, zeros}
 use Rattle.vs_pages.specs.Memory.{changes_of, commits_of, committed_under, first_kept_of, kept_of, state_under, AreBacked, KeepsSince}
@@ -18,6 +19,7 @@ use Rattle.vs_pages.specs.State.{PageState}
 use Rattle.vs_pages.specs.declared.memory.MemPages.{MemPages}
 use Rattle.vs_pages.proofs.CellLemmas.{cell-other, shown_away}
 use Rattle.vs_pages.proofs.MapsLemmas.{length-zeros, put-other, put-same}
+use Rattle.vs_pages.proofs.TableLemmas.{cells_of-within}
 use Rattle.vs_pages.proofs.Sights.{sent_backed, sent_committed, sent_state, state_same}
 use Rattle.vs_swap.specs.Files.{page_in}
 use Rattle.vs_pair.specs.declared.files.SwapFiles.{SwapFiles}
@@ -28,7 +30,7 @@ use Rattle.vs_pair.specs.Stale.{HasFresh}
 use Rattle.vs_pair.specs.Swap.{Body, Synced, WritesBody, body_of, page_zero}
 use Rattle.vs_pair.specs.Pair.{IsFit, Known, away_of, is_swap, name_of, other_side}
 use Rattle.vs_pair.proofs.FitLemmas.{body_is, side_is_swap}
-use Rattle.vs_pair.proofs.PageWrites.{page_is}
+use Rattle.vs_pair.proofs.PageWrites.{page_is, part_of}
 
 -- ---- a file that another call leaves
 
@@ -176,11 +178,11 @@ pub is_there : (o : Option (List ℕ)) → IsSomeAnd o (λ page. length page ≡
 is_there None is = absurd is
 is_there (Some page) is = refl
 
-module _ (k place size : ℕ) (at : place ≡ k * 4096) (whole : size ≡ 4096) where
+module _ (k place size : ℕ) (ends : place + size ≡ 4096 * (k + 1)) where
   within_file : (bytes : List ℕ) → IsSome (page_in bytes k) → place + size ≤ length bytes
   within_file bytes is = elim (cases_lt (length bytes) (4096 * (k + 1))) [
     | inl short ↦ let none : page_in bytes k ≡ None = grind (arith, nat_tests) in let clash : is_some (page_in bytes k) ≡ false = ap (λ (o : Option (List ℕ)). is_some o) none in absurd (cc)
-    | inr long ↦ omega (arith, at, whole, long)
+    | inr long ↦ omega (arith, ends, long)
   ]
 
   there_read : (content : Option (List ℕ)) → IsSome (pages_read content k) → IsSomeAnd content (λ bytes. place + size ≤ length bytes)
@@ -190,15 +192,55 @@ module _ (k place size : ℕ) (at : place ≡ k * 4096) (whole : size ≡ 4096) 
   pub read_there : (disk : Disk) (name : Name) → IsSome (pages_under disk name k) → IsSomeAnd (content_in disk name) (λ bytes. place + size ≤ length bytes)
   read_there disk name is = there_read (content_in disk name) is
 
+pub page_ends : (k place size : ℕ) → place ≡ k * 4096 → size ≡ 4096 → place + size ≡ 4096 * (k + 1)
+page_ends k place size at whole = omega (arith, at, whole)
+
+module _ (k place size : ℕ) (at : place ≡ k * 4096) (whole : size ≡ 4096) where
   page_read : (into : List ℕ) (content : Option (List ℕ)) → IsSome (pages_read content k) → IfSome content (λ bytes. into ≡ take size (drop place bytes)) → pages_read content k ≡ Some into
   page_read into None is read = absurd (cc)
   page_read into (Some bytes) is read =
-      let long : 4096 * (k + 1) ≤ length bytes = omega (arith, at, whole, within_file bytes is) in
+      let long : 4096 * (k + 1) ≤ length bytes = omega (arith, at, whole, within_file k place size (page_ends k place size at whole) bytes is) in
       let e : place ≡ 4096 * k = omega (arith, at) in
       page_is bytes k long ∙ ap (λ (l : List ℕ). Some l) (sym (read ∙ (ap (λ n. take n (drop place bytes)) whole ∙ ap (λ n. take 4096 (drop n bytes)) e)))
 
   pub read_page : (into : List ℕ) (disk : Disk) (name : Name) → IsSome (pages_under disk name k) → IfSome (content_in disk name) (λ bytes. into ≡ take size (drop place bytes)) → pages_under disk name k ≡ Some into
   read_page into disk name is read = page_read into (content_in disk name) is read
+
+-- a page of a room
+pub kept_page : (items copy : List ℕ) (i from count : ℕ) → from ≡ i * 4096 → count ≡ 4096 → from + count ≤ length items → copy ≡ take count (drop from items) → page_in items i ≡ Some copy
+kept_page items copy i from count at size within is =
+    let e : 4096 * i ≡ from = omega (arith, at) in
+    page_is items i (omega (arith, at, size, within)) ∙ ap (λ (l : List ℕ). Some l) (ap (λ (j : ℕ). take 4096 (drop j items)) e ∙ (ap (λ (n : ℕ). take n (drop from items)) (sym size) ∙ sym is))
+
+-- a page of the bytes that are read
+module _ (at n i place count : ℕ) (from : place ≡ at * 4096) (size : count ≡ n * 4096) (less : i < n) where
+  cut_page : (bytes room : List ℕ) → place + count ≤ length bytes → count ≤ length room → take count room ≡ take count (drop place bytes) → page_in bytes (at + i) ≡ page_in room i
+  cut_page bytes room long most read =
+      let within : 4096 * i + 4096 ≤ count = omega (arith, size, less) in
+      let there : 4096 * (at + i + 1) ≤ length bytes = omega (arith, from, size, less, long) in
+      let here : 4096 * (i + 1) ≤ length room = omega (arith, within, most) in
+      let sum : place + 4096 * i ≡ 4096 * (at + i) = omega (arith, from) in
+      let cut : List ℕ → List ℕ = λ l. take 4096 (drop (4096 * i) l) in
+      page_is bytes (at + i) there
+      ∙ ap (λ (l : List ℕ). Some l) (
+      ap (λ (j : ℕ). take 4096 (drop j bytes)) (sym sum)
+      ∙ ap (λ (l : List ℕ). take 4096 l) (sym (drop-drop (4096 * i) place bytes))
+      ∙ sym (part_of (drop place bytes) (4096 * i) 4096 count within)
+      ∙ ap cut (sym read)
+      ∙ part_of room (4096 * i) 4096 count within
+      )
+      ∙ sym (page_is room i here)
+
+  run_there : (room : List ℕ) (content : Option (List ℕ)) → IsSomeAnd content (λ bytes. place + count ≤ length bytes) → count ≤ length room
+      → IfSome content (λ bytes. take count room ≡ take count (drop place bytes)) → pages_read content (at + i) ≡ page_in room i
+  run_there room None long most read = absurd long
+  run_there room (Some bytes) long most read = cut_page bytes room long most read
+
+  pub run_read : (files : SwapFiles) (disk : Disk) (name : Name) (room : List ℕ) → name ≡ name_of files.names files.newer
+      → IsSomeAnd (content_in disk name) (λ bytes. place + count ≤ length bytes) → count ≤ length room
+      → IfSome (content_in disk name) (λ bytes. take count room ≡ take count (drop place bytes)) → away_of files disk (at + i) ≡ page_in room i
+  run_read files disk name room named long most read =
+      ap (λ (m : Name). pages_under disk m (at + i)) (sym named) ∙ run_there room (content_in disk name) long most read
 
 -- what is not there is not asked for
 pub not_both : (b : Bool) → IsTrue b → b ≡ false → ⊥
@@ -225,7 +267,33 @@ there_one m at there i less = let e : at ≡ at + i = omega (arith, less) in sub
 pub committed_there : (away : Map) (pages : MemPages) (at : ℕ) → AreBacked away pages → IsTrue (is_away (first_kept_of pages at)) → IsSome (away at)
 committed_there away pages at backed gone = is_there (away at) (backed at gone).1
 
-pub fetched : (files : SwapFiles) (disk : Disk) (at : ℕ) (name : Name) (into : List ℕ) (size : ℕ) → name ≡ name_of files.names files.newer → size ≡ 4096 → IsSome (away_of files disk at)
-    → IfSome (content_in disk name) (λ bytes. into ≡ take size (drop (at * 4096) bytes)) → away_of files disk at ≡ Some into
-fetched files disk at name into size named whole there read =
-    read_page at (at * 4096) size refl whole into disk (name_of files.names files.newer) there (subst (λ (n : Name). IfSome (content_in disk n) (λ bytes. into ≡ take size (drop (at * 4096) bytes))) named read)
+away_some : (o : Option Cell) → IsTrue (is_away o) → IsSome o
+away_some None is = absurd (true≢false (sym is))
+away_some (Some cell) is = refl
+
+-- the last page of a run
+run_last : (n at place count : ℕ) → 1 ≤ n → place ≡ at * 4096 → count ≡ n * 4096 → place + count ≡ 4096 * (at + (n - 1) + 1)
+run_last n at place count least from size = omega (arith, least, from, size)
+
+less_than_all : (n : ℕ) → 1 ≤ n → n - 1 < n
+less_than_all n least = omega (arith, least)
+
+-- A run of pages that are away lies in the file as a whole.
+module _ (pages : MemPages) (at n : ℕ) (least : 1 ≤ n) (gone : (i : ℕ) → i < n → IsTrue (is_away (kept_of pages (at + i)))) where
+  pub run_within : (files : SwapFiles) (disk : Disk) (name : Name) → name ≡ name_of files.names files.newer → AreBacked (away_of files disk) pages
+      → IsSomeAnd (content_in disk name) (λ bytes. at * 4096 + n * 4096 ≤ length bytes)
+  run_within files disk name named backed =
+      let newer : Name = name_of files.names files.newer in
+      let there = backed_there (away_of files disk) pages (at + (n - 1)) backed (gone (n - 1) (less_than_all n least)) in
+      subst (λ (m : Name). IsSomeAnd (content_in disk m) (λ bytes. at * 4096 + n * 4096 ≤ length bytes)) (sym named)
+      (read_there (at + (n - 1)) (at * 4096) (n * 4096) (run_last n at (at * 4096) (n * 4096) least refl refl) disk newer there)
+
+  pub run_below : at + n ≤ 2 ^ 40
+  run_below = omega (arith, least, pages.table.bound, cells_of-within pages.table.places.items (at + (n - 1)) (away_some (kept_of pages (at + (n - 1))) (gone (n - 1) (less_than_all n least))))
+
+-- the page that is asked for is the first of its run
+pub fetched : (pages : MemPages) (away : Map) (room page : List ℕ) (at n : ℕ) → IsTrue (is_away (kept_of pages at)) → 1 ≤ n → ((i : ℕ) → i < n → away (at + i) ≡ page_in room i)
+    → page_in room 0 ≡ Some page → shown (away at) (kept_of pages at) ≡ Some page
+fetched pages away room page at n gone least read is =
+    let e : at ≡ at + 0 = omega arith in
+    shown_away (away at) (kept_of pages at) gone ∙ (ap away e ∙ (read 0 least ∙ is))

@@ -7,7 +7,7 @@ pages-init c = record { same = λ away backed all. same_seen away c.args.pages.n
 
 pub pages-preserved : goal.pages-preserved
 pages-preserved c = record {
-  same = λ away backed all. c.send_page.ensures.same away c.args.pages.now all (c.pages.invariant.same away backed all);
-  cached = λ away backed all cached. c.send_page.ensures.cached away c.args.pages.now all (c.pages.invariant.same away backed all) (c.pages.invariant.cached away backed all cached);
-  commits = c.send_page.ensures.commits ∙ c.pages.invariant.commits;
+  same = λ away backed all. c.send_page-room.ensures.same away c.args.pages.now all (c.pages.invariant.same away backed all);
+  cached = λ away backed all cached. c.send_page-room.ensures.cached away c.args.pages.now all (c.pages.invariant.same away backed all) (c.pages.invariant.cached away backed all cached);
+  commits = c.send_page-room.ensures.commits ∙ c.pages.invariant.commits;
 }

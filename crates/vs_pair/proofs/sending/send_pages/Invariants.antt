@@ -1,4 +1,4 @@
-use Rattle.std.proofs.Common.{◌≡◌, ◌≤◌}
+use Rattle.std.proofs.Common.{◌≡◌}
 use Rattle.vs_pages.specs.Maps.{Map}
 use Rattle.vs_pages.specs.Memory.{commits_of, AreBacked}
 use Rattle.vs_pair.specs.Held.{HasAll, SameSeen}

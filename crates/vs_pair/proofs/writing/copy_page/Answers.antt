@@ -10,7 +10,7 @@ use Rattle.vs_pages.specs.Memory.{first_kept_of}
 use Rattle.vs_pages.proofs.CellLemmas.{shown_any}
 use Rattle.vs_pair.specs.Held.{pages_under}
 use Rattle.vs_pair.specs.Writes.{page_or_zeros}
-use Rattle.vs_pair.proofs.AwayLemmas.{committed_there, read_page, read_there}
+use Rattle.vs_pair.proofs.AwayLemmas.{page_ends, committed_there, read_page, read_there}
 use Rattle.vs_pair.proofs.Calls.{look_none}
 use Rattle.vs_pair.proofs.ReadLemmas.{only_call, only_none}
 use Rattle.vs_pair.proofs.writing.copy_page.Goals as goal
@@ -47,7 +47,7 @@ returns-in-Missing-clause-page g c = λ told.
 pub read_at-requires : goal.read_at-requires
 read_at-requires g c told =
     let cell = away_is c.copy_committed.result _ (first_kept_of c.args.pages.now c.args.at) c.in-Away.is c.copy_committed.ensures.page in
-    read_there c.args.at (c.args.at * 4096) _ refl c.copy_committed.ensures.size (g.F.World.scene c.args.host.now).folder c.args.from.now
+    read_there c.args.at (c.args.at * 4096) _ (page_ends c.args.at (c.args.at * 4096) _ refl c.copy_committed.ensures.size) (g.F.World.scene c.args.host.now).folder c.args.from.now
     (committed_there _ c.args.pages.now c.args.at (c.requires.backed told) (ap (λ (o : Option Cell). is_away o) cell))
 
 pub returns-in-Missing-clause-reads : goal.returns-in-Missing-clause-reads
