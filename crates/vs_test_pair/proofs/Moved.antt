@@ -1,5 +1,5 @@
 -- A pair that was started goes on to fit while it is ready.
-use Rattle.std.proofs.Common.{◌≡◌, ◌≤◌, inl, inr, ap, arith}
+use Rattle.std.proofs.Common.{◌≤◌, inl, inr, arith}
 use Rattle.vs_host.specs.Disk.{Disk}
 use Rattle.vs_pair.specs.declared.pair.SwapPair.{SwapPair}
 use Rattle.vs_pair.specs.Lent.{IsReady}

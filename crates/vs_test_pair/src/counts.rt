@@ -4,7 +4,7 @@ ghost use Rattle.vs_host.specs.Names.{names_of_file};
 ghost use Rattle.vs_pair.specs.Steps.{IsFresh};
 ghost use Rattle.vs_test_pair.specs.Lives.{HasText, Fits};
 
-use crate::life::{NAME, sync_text};
+use crate::life::{NAME, sync_page};
 use crate::stops::empty_folder;
 use std::alloc::Global;
 use std::process::Abort;
@@ -69,9 +69,9 @@ fn a_sync_after_one_changed_page_writes_one_run(rt: HostRuntime) -> Result<(), F
     let Some(mut pair) = start_pages(alloc, &mut host)? else {
         return Err(Fail::new("the start failed"));
     };
-    assert!(rt; sync_text(alloc, &mut pair, &mut host, 1)?);
-    assert!(rt; sync_text(alloc, &mut pair, &mut host, 2)?);
-    assert!(rt; sync_text(alloc, &mut pair, &mut host, 3)?);
+    assert!(rt; sync_page(alloc, &mut pair, &mut host, &[1; PAGE_SIZE])?);
+    assert!(rt; sync_page(alloc, &mut pair, &mut host, &[2; PAGE_SIZE])?);
+    assert!(rt; sync_page(alloc, &mut pair, &mut host, &[3; PAGE_SIZE])?);
     assert!(rt; host.writes(".f.swp") == 8 && host.writes(".f.swo") == 4);
     assert!(rt; is_whole(host.file(".f.swp"), 3));
     assert!(rt; is_whole(host.file(".f.swo"), 2));

@@ -2,10 +2,18 @@
 #![tactic(auto)]
 
 #[cfg(test)]
+mod altered;
+#[cfg(test)]
+mod asking;
+#[cfg(test)]
 mod bytes;
 #[cfg(test)]
 mod counts;
+#[cfg(test)]
+mod held;
 pub mod life;
+#[cfg(test)]
+mod outside;
 #[cfg(test)]
 mod rows;
 #[cfg(test)]

@@ -1,5 +1,5 @@
 // One life of a pair: it is started, synced and ended. The text is the byte that fills page 2.
-ghost use Rattle.std.specs.Prelude.{◌≡◌, ◌+◌, ◌<◌, ◌≤◌, ◌^◌, List, Some, IfOk, IfSome, OnOk, IsSome, IsTrue, codes};
+ghost use Rattle.std.specs.Prelude.{◌≡◌, ◌+◌, ◌<◌, ◌≤◌, ◌^◌, List, Some, IfOk, IfSome, OnOk, IsSome, IsTrue, codes, length};
 ghost use Rattle.vs_host.specs.Names.{names_of_file};
 ghost use Rattle.vs_pages.specs.Maps.{first_pages, no_pages, pages_at};
 ghost use Rattle.vs_pages.specs.Memory.{present_of, AreBacked};
@@ -57,13 +57,14 @@ fn start_text<F: Folder>(alloc: Global, host: &mut F, text: u8) -> Result<Option
     }
 }
 
-// Makes this the text of a pair that was started, and commits it.
-fn put_text<F: Folder>(
+// Makes this page 2 of a pair that was started, and commits it.
+fn put_page<F: Folder>(
     alloc: Global,
     pair: &mut SwapPair,
     host: &mut F,
-    text: u8,
+    page: &[u8],
 ) -> Result<(), Fail>
+    requires size { length page.now ≡ 4096 }
     requires fits { IsTrue F.tells.folder → Fits pair.old (F.scene host.old).folder }
     requires there { IsTrue F.tells.folder → HasText pair.old (F.scene host.old).folder }
     requires started { 2 ≤ pair.old.files.generation }
@@ -71,20 +72,20 @@ fn put_text<F: Folder>(
     ensures fits { OnOk result (IsTrue F.tells.folder → Fits pair.new (F.scene host.new).folder) }
     ensures there { OnOk result (IsTrue F.tells.folder → HasText pair.new (F.scene host.new).folder) }
 {
-    let page = vec![in alloc; text; PAGE_SIZE]?;
     let mut store = PairPages { pair, host };
-    store.touch(alloc, 2, 1, &page)?;
+    store.touch(alloc, 2, 1, page)?;
     store.commit();
     Ok(())
 }
 
-// Syncs this text, and says whether that succeeded.
-pub(crate) fn sync_text<F: Folder>(
+// Syncs this as page 2, and says whether that succeeded.
+pub(crate) fn sync_page<F: Folder>(
     alloc: Global,
     pair: &mut SwapPair,
     host: &mut F,
-    text: u8,
+    page: &[u8],
 ) -> Result<bool, Fail>
+    requires size { length page.now ≡ 4096 }
     requires fits { IsTrue F.tells.folder → Fits pair.old (F.scene host.old).folder }
     requires there { IsTrue F.tells.folder → HasText pair.old (F.scene host.old).folder }
     requires started { 2 ≤ pair.old.files.generation }
@@ -93,7 +94,7 @@ pub(crate) fn sync_text<F: Folder>(
     ensures there { OnOk result (IsTrue F.tells.folder → HasText pair.new (F.scene host.new).folder) }
     ensures generation { OnOk result (pair.new.files.generation ≡ pair.old.files.generation + 1) }
 {
-    put_text(alloc, pair, host, text)?;
+    put_page(alloc, pair, host, page)?;
     let head = Head {
         dirty: true,
         empty: false,
@@ -116,8 +117,8 @@ pub(crate) fn live<F: Folder>(alloc: Global, host: &mut F) -> Result<Life, Fail>
             ended: false,
         });
     };
-    let first = sync_text(alloc, &mut pair, host, 2)?;
-    let second = sync_text(alloc, &mut pair, host, 3)?;
+    let first = sync_page(alloc, &mut pair, host, &[2; PAGE_SIZE])?;
+    let second = sync_page(alloc, &mut pair, host, &[3; PAGE_SIZE])?;
     let ended = pair.end(host).is_ok();
     Ok(Life {
         started: true,

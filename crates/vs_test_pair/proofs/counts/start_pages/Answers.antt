@@ -1,7 +1,6 @@
 use Rattle.std.proofs.Common.{IsSome, sym, subst}
 use Rattle.vs_pages.specs.Maps.{no_pages, pages_at}
 use Rattle.vs_pages.specs.State.{PageState}
-use Rattle.vs_test_pair.specs.Lives.{Fits}
 use Rattle.vs_test_pair.proofs.counts.start_pages.Goals as goal
 
 pub start-requires-clause-here : goal.start-requires-clause-here

@@ -1,7 +1,6 @@
 use Rattle.std.proofs.Common.{IsSome, refl, sym, subst}
 use Rattle.vs_pages.specs.Maps.{Map, pages_at}
 use Rattle.vs_pages.specs.State.{PageState}
-use Rattle.vs_test_pair.specs.Lives.{Fits}
 use Rattle.vs_test_pair.proofs.life.start_text.Goals as goal
 
 pub fill_first-requires : goal.fill_first-requires

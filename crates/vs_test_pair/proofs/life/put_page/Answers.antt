@@ -5,7 +5,7 @@ use Rattle.vs_pair.specs.declared.pair.SwapPair.{SwapPair}
 use Rattle.vs_pair.specs.Lent.{IsReady}
 use Rattle.vs_pair.specs.Pair.{shown_in}
 use Rattle.vs_test_pair.proofs.Moved.{fitting, ready}
-use Rattle.vs_test_pair.proofs.life.put_text.Goals as goal
+use Rattle.vs_test_pair.proofs.life.put_page.Goals as goal
 
 pub touch-requires-clause-valid : goal.touch-requires-clause-valid
 touch-requires-clause-valid g c = λ told. ready _ _ (c.requires.fits told)
