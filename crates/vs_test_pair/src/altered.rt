@@ -6,48 +6,12 @@ use std::alloc::Global;
 use std::process::Abort;
 use std::test::Fail;
 use vs_pair::Head;
+use vs_test_hosts::{ALTERED, Altered};
 
 // The file of the next sync after the start, and that of the start's, from which pages are read until then.
 const FIRST: &str = ".f.swp";
 
 const SECOND: &str = ".f.swo";
-
-// How a page is altered.
-#[derive(Clone, Copy)]
-enum Altered {
-    // With another byte at a place of the page.
-    Byte(u64, usize, u8),
-    // As another page is.
-    Other(u64, u64),
-}
-
-// Each kind of altered page that is none of the text, in which the first entry of block 1 leads to block 2 with four lines.
-const ALTERED: [(&str, Altered); 11] = [
-    ("a pointer block without its mark", Altered::Byte(1, 0, 0)),
-    (
-        "more entries than a block has room for",
-        Altered::Byte(1, 3, 255),
-    ),
-    ("an entry of another line count", Altered::Byte(1, 16, 7)),
-    ("an entry without pages", Altered::Byte(1, 32, 0)),
-    (
-        "an entry of two pages for four lines",
-        Altered::Byte(1, 32, 2),
-    ),
-    ("an entry of many million pages", Altered::Byte(1, 35, 127)),
-    ("an entry of a negative page", Altered::Byte(1, 15, 128)),
-    ("a data block without its mark", Altered::Byte(2, 0, 0)),
-    ("a data block of other lines", Altered::Byte(2, 16, 2)),
-    ("a pointer block for a data block", Altered::Other(2, 1)),
-    ("a data block for a pointer block", Altered::Other(1, 2)),
-];
-
-// The number of the page.
-fn page_of(how: Altered) -> u64 {
-    match how {
-        Altered::Byte(page, _, _) | Altered::Other(page, _) => page,
-    }
-}
 
 // What the page of a file is altered to.
 fn altered_page(alloc: Global, host: &Outside, file: &str, how: Altered) -> Result<Vec<u8>, Fail> {
@@ -65,7 +29,7 @@ fn altered_page(alloc: Global, host: &Outside, file: &str, how: Altered) -> Resu
 
 // Alters a page of a file, and gives its bytes before.
 fn inflict(alloc: Global, host: &mut Outside, file: &str, how: Altered) -> Result<Vec<u8>, Fail> {
-    let page = page_of(how);
+    let page = how.page();
     let before = host.page(alloc, file, page)?;
     let after = altered_page(alloc, host, file, how)?;
     host.alter(file, page, &after)?;
@@ -83,7 +47,7 @@ fn each_altered_page_is_one_fault(rt: HostRuntime) -> Result<(), Fail> {
             assert!(rt; asked.host.faults == 1);
             assert!(rt; !asked.ask(alloc, way)?, "{kind}: {way:?}");
             assert!(rt; asked.host.faults == 2, "{kind}: {way:?}");
-            asked.host.alter(SECOND, page_of(how), &before)?;
+            asked.host.alter(SECOND, how.page(), &before)?;
             assert!(rt; asked.shows(alloc, LETTERS)?, "{kind}: {way:?}");
         }
     }
@@ -136,7 +100,7 @@ fn a_block_with_the_same_counts_shows_its_own_lines(rt: HostRuntime) -> Result<(
         asked.forget();
         assert!(rt; asked.shows(alloc, letters)?);
         assert!(rt; asked.ask(alloc, Way::Change)?);
-        asked.host.alter(SECOND, page_of(how), &before)?;
+        asked.host.alter(SECOND, how.page(), &before)?;
         asked.forget();
         assert!(rt; asked.shows(alloc, LETTERS)?);
     }

@@ -8,42 +8,21 @@ use std::test::Fail;
 use vs_edit::{LineStore, StoreErr};
 use vs_pages::failing::FailingPages;
 use vs_pages::{MemPages, PageErr, Pages};
+use vs_test_hosts::{ALTERED, Altered};
 use vs_text::{Line, MAX_TEXT_BYTES};
 use vs_tree::{Extent, LineTree, TreeStore};
 
 // How a page comes back.
 #[derive(Clone, Copy)]
 enum Damage {
-    // With another byte at a place of the page.
-    Byte(u64, u64, u8),
-    // As another page is.
-    Other(u64, u64),
+    // Altered.
+    Altered(Altered),
     // As it was before the last line came.
     Stale(u64),
 }
 
-// Each kind of damage to a tree of four lines: block 1 leads to a data block of one page.
-const DAMAGES: [(&str, Damage); 13] = [
-    ("a pointer block without its mark", Damage::Byte(1, 0, 0)),
-    (
-        "more entries than a block has room for",
-        Damage::Byte(1, 3, 255),
-    ),
-    ("an entry of another line count", Damage::Byte(1, 16, 7)),
-    ("an entry without pages", Damage::Byte(1, 32, 0)),
-    (
-        "an entry of two pages for four lines",
-        Damage::Byte(1, 32, 2),
-    ),
-    ("an entry of many million pages", Damage::Byte(1, 35, 127)),
-    ("an entry of a negative page", Damage::Byte(1, 15, 128)),
-    ("a data block without its mark", Damage::Byte(2, 0, 0)),
-    ("a data block of other lines", Damage::Byte(2, 16, 2)),
-    ("a pointer block for a data block", Damage::Other(2, 1)),
-    ("a data block for a pointer block", Damage::Other(1, 2)),
-    ("a stale pointer block", Damage::Stale(1)),
-    ("a stale data block", Damage::Stale(2)),
-];
+// Pages of a tree of four lines, in which block 1 leads to a data block of one page, as they were before the last line came.
+const STALE: [(&str, u64); 2] = [("a stale pointer block", 1), ("a stale data block", 2)];
 
 // The bytes of a page.
 fn load_page<P: Pages>(alloc: Global, pages: &mut P, page: u64) -> Result<Vec<u8>, PageErr>
@@ -55,6 +34,25 @@ fn load_page<P: Pages>(alloc: Global, pages: &mut P, page: u64) -> Result<Vec<u8
     let mut bytes = Vec::new(alloc);
     pages.load(alloc, page, 1, &mut bytes)?;
     Ok(bytes)
+}
+
+// What a page is altered to.
+fn altered_page<P: Pages>(alloc: Global, pages: &mut P, how: Altered) -> Result<Vec<u8>, PageErr>
+    requires told { P.tells ≡ false }
+    requires valid { P.valid pages.old }
+    ensures size { IfOk result (λ bytes. length bytes.items ≡ 4096) }
+    ensures valid { P.valid pages.new }
+{
+    match how {
+        Altered::Byte(page, at, byte) => {
+            let mut bytes = load_page(alloc, pages, page)?;
+            if at < bytes.len() {
+                bytes[at] = byte;
+            }
+            Ok(bytes)
+        }
+        Altered::Other(_, other) => load_page(alloc, pages, other),
+    }
 }
 
 // Damages a page. `before` is what the damaged page was before the last line came.
@@ -70,16 +68,9 @@ fn inflict<P: Pages>(
     ensures { P.valid pages.new }
 {
     match damage {
-        Damage::Byte(page, at, byte) => {
-            let mut bytes = load_page(alloc, pages, page)?;
-            if at < 4096 {
-                bytes[at as usize] = byte;
-            }
-            pages.touch(alloc, page, 1, &bytes)
-        }
-        Damage::Other(page, other) => {
-            let bytes = load_page(alloc, pages, other)?;
-            pages.touch(alloc, page, 1, &bytes)
+        Damage::Altered(how) => {
+            let bytes = altered_page(alloc, pages, how)?;
+            pages.touch(alloc, how.page(), 1, &bytes)
         }
         Damage::Stale(page) => pages.touch(alloc, page, 1, before),
     }
@@ -97,7 +88,8 @@ fn faults_after(alloc: Global, damage: Damage) -> Result<u64, StoreErr> {
     };
     push_lines(alloc, &mut store, 3, 10)?;
     let page = match damage {
-        Damage::Byte(page, _, _) | Damage::Other(page, _) | Damage::Stale(page) => page,
+        Damage::Altered(how) => how.page(),
+        Damage::Stale(page) => page,
     };
     let Ok(before) = load_page(alloc, &mut store.pages, page) else {
         return Err(StoreErr::NoMemory);
@@ -114,8 +106,12 @@ fn faults_after(alloc: Global, damage: Damage) -> Result<u64, StoreErr> {
 
 #[test]
 fn each_damaged_page_is_a_fault(rt: HostRuntime) -> Result<(), Fail> {
-    for (kind, damage) in DAMAGES {
-        let faults = faults_after(rt.alloc(), damage)?;
+    for (kind, how) in ALTERED {
+        let faults = faults_after(rt.alloc(), Damage::Altered(how))?;
+        assert!(rt; faults == 1, "{kind}");
+    }
+    for (kind, page) in STALE {
+        let faults = faults_after(rt.alloc(), Damage::Stale(page))?;
         assert!(rt; faults == 1, "{kind}");
     }
     Ok(())
