@@ -3,7 +3,8 @@ ghost use Rattle.std.specs.Prelude.{◌≡◌, ◌-◌, ◌^◌, ◌<◌, ℕ, L
 ghost use Rattle.vs_edit.specs.Calls.{Continues, StopsAtFault};
 ghost use Rattle.vs_entries.specs.Entries.{filled, settled, applied, led_back, range_in, AllowsEntry, Fits, LeadsCount};
 
-use crate::read::{bottom_back, lines_at, one_empty};
+use crate::lines::{each_line, lines_at, one_empty};
+use crate::read::bottom_back;
 use crate::{EditErr, Entry};
 use std::alloc::Global;
 use vs_edit::LineStore;
@@ -18,8 +19,8 @@ fn fill<S: LineStore>(alloc: Global, store: &mut S) -> Result<(), EditErr>
     ensures cause { StopsAtFault S.LineStore (IsErrOf result EditErr.Failed) store.old store.new }
 {
     if store.len() == 0 {
-        let line = one_empty(alloc)?;
-        store.splice(alloc, 0, 0, line.lines())?;
+        let line = each_line(alloc, &one_empty(alloc)?)?;
+        store.splice(alloc, 0, 0, &line)?;
     }
     Ok(())
 }
@@ -82,11 +83,12 @@ pub fn apply<S: LineStore>(alloc: Global, store: &mut S, entry: &Entry) -> Resul
     };
     fill(alloc, store)?;
     let gone = lines_at(alloc, store, entry.top, old)?;
-    store.splice(alloc, entry.top, old, entry.lines.lines())?;
+    let new = each_line(alloc, &entry.lines)?;
+    store.splice(alloc, entry.top, old, &new)?;
     settle(alloc, store, entry.empty)?;
     Ok(Entry {
         top: entry.top,
-        bottom: bottom_back(entry.top, old, count, entry.lines.len() as u64),
+        bottom: bottom_back(entry.top, old, count, new.len() as u64),
         lines: gone,
         empty: lines == 0,
     })

@@ -6,11 +6,12 @@ ghost use Rattle.vs_edit.specs.Splices.{cut_out};
 ghost use Rattle.vs_entries.specs.Entries.{applied, filled, led_back, AllowsEntry, Fits, Leads, LeadsCount};
 
 use crate::exchange::{apply, range_in};
+use crate::lines::count_short;
 use crate::{EditErr, Entry};
 use std::alloc::Global;
-use vs_edit::{LineStore, StoreErr, are_short, has_room};
+use vs_edit::{LineStore, StoreErr};
 use vs_reads::bytes_in;
-use vs_text::MAX_LINES;
+use vs_text::{MAX_LINES, MAX_TEXT_BYTES};
 
 // The number of bytes of `old` lines from line `top` on of the stored form.
 fn bytes_at<S: LineStore>(alloc: Global, store: &mut S, top: u64, old: u64) -> Result<u64, StoreErr>
@@ -45,19 +46,18 @@ pub fn fits<S: LineStore>(alloc: Global, store: &mut S, entry: &Entry) -> Result
     let Some(old) = range_in(entry, count) else {
         return Ok(false);
     };
-    let new = entry.lines.len() as u64;
+    let Some(new) = count_short(&entry.lines) else {
+        return Ok(false);
+    };
     if new > MAX_LINES || count - old > MAX_LINES - new {
         return Ok(false);
     }
-    let lines = entry.lines.lines();
-    if !are_short(lines) {
-        return Ok(false);
-    }
-    if has_room(bytes, lines) {
+    let more = entry.lines.bytes().len() as u64;
+    if bytes.saturating_add(more) <= MAX_TEXT_BYTES {
         return Ok(true);
     }
     let gone = bytes_at(alloc, store, entry.top, old)?;
-    Ok(has_room(bytes.saturating_sub(gone), lines))
+    Ok(bytes.saturating_sub(gone).saturating_add(more) <= MAX_TEXT_BYTES)
 }
 
 // The same cause, where the range of the entry lies within the text.

@@ -1,36 +1,13 @@
-// Reading the lines that a splice takes out.
-ghost use Rattle.std.specs.Prelude.{◌≡◌, ◌+◌, ◌-◌, ◌^◌, ◌<◌, ◌≤◌, ◌==◌, if◌then◌else◌, ◌∷◌, [], ℕ, List, All, IfOk, IsErrOf, length, max};
-ghost use Rattle.vs_text.specs.Limits.{IsShort};
+// The entry that leads back over a splice.
+ghost use Rattle.std.specs.Prelude.{◌≡◌, ◌+◌, ◌-◌, ◌^◌, ◌<◌, ◌≤◌, ◌==◌, if◌then◌else◌, ℕ, List, IfOk, IsErrOf, max};
 ghost use Rattle.vs_text.specs.declared.TheConstants.{MAX_LINES};
-ghost use Rattle.vs_edit.specs.Splices.{cut_out};
 ghost use Rattle.vs_edit.specs.Calls.{OnlyReads, StopsAtFault};
 ghost use Rattle.vs_entries.specs.Entries.{splice_back, LeadsCount};
 
+use crate::lines::{lines_at, one_empty};
 use crate::{EditErr, Entry};
-use std::alloc::{AllocError, Global};
-use vs_edit::{LineStore, StoreErr};
-use vs_reads::push_lines;
-use vs_text::{Line, Text};
-
-// The lines from line `top` on.
-pub(crate) fn lines_at<S: LineStore>(
-    alloc: Global,
-    store: &mut S,
-    top: u64,
-    count: u64,
-) -> Result<Text, StoreErr>
-    requires valid { S.valid store.old }
-    requires within { top + count ≤ (S.shows store.old).present.lines }
-    ensures lines { IfOk result (λ lines. (text : List (List ℕ)) → (S.shows store.old).present.Is text → lines ≡ cut_out text top count) }
-    ensures count { IfOk result (λ lines. length lines ≡ count) }
-    ensures short { IfOk result (λ lines. All IsShort lines) }
-    ensures kept { OnlyReads S.LineStore store.old store.new }
-    ensures cause { StopsAtFault S.LineStore (IsErrOf result StoreErr.Failed) store.old store.new }
-{
-    let mut lines = Vec::new(alloc);
-    push_lines(alloc, store, top, count, &mut lines)?;
-    Ok(Text::of(lines))
-}
+use std::alloc::Global;
+use vs_edit::LineStore;
 
 // The bottom of the range that `new_len` lines have in the place of `old` lines from line `top` on, of `count` lines.
 pub(crate) fn bottom_back(top: u64, old: u64, count: u64, new_len: u64) -> u64
@@ -43,15 +20,6 @@ pub(crate) fn bottom_back(top: u64, old: u64, count: u64, new_len: u64) -> u64
     } else {
         top + new_len + 1
     }
-}
-
-// One empty line.
-pub(crate) fn one_empty(alloc: Global) -> Result<Text, AllocError>
-    ensures { IfOk result (λ lines. lines ≡ [] ∷ []) }
-{
-    let mut lines = Vec::new(alloc);
-    lines.push(Line::from_vec(Vec::new(alloc)))?;
-    Ok(Text::of(lines))
 }
 
 /// The entry that leads back from a text in which `new_len` lines stand in the place of `old` lines from line `top` on. It reads

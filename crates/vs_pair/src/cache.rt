@@ -75,7 +75,8 @@ impl Cache {
     // Puts a copy of a page of the room in, or leaves it out where memory is refused.
     fn keep_page(&mut self, alloc: Global, at: u64, i: usize)
         requires { i < MOST_READ }
-        ensures kept { (on : ℕ → Bool) (map : Map) → IsCacheOf on map self.old → map at ≡ page_in self.old.room.items i → IsCacheOf on map self.new }
+        ensures kept { (on : ℕ → Bool) (map : Map) → IsCacheOf on map self.old
+            → map at ≡ page_in self.old.room.items i → IsCacheOf on map self.new }
         ensures room { self.new.room ≡ self.old.room }
     {
         let from = i * PAGE_SIZE;

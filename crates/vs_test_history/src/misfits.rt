@@ -5,7 +5,8 @@ use std::process::Abort;
 use std::test::Fail;
 use vs_entries::Entry;
 use vs_outward::first_misfit;
-use vs_text::{Line, Text, from_stored};
+use vs_pieces::EndedLines;
+use vs_text::from_stored;
 use vs_undo::UndoTree;
 
 // The least change that does not fit the text of a file.
@@ -41,14 +42,14 @@ pub(crate) fn entry(
     bottom: u64,
     length: usize,
 ) -> Result<Entry, AllocError> {
-    let mut lines = Vec::new(alloc);
     let mut line = vec![in alloc; b'x'; length]?;
     from_stored(&mut line);
-    lines.push(Line::from_vec(line))?;
+    let mut lines = EndedLines::new(alloc);
+    lines.push(&line)?;
     Ok(Entry {
         top,
         bottom,
-        lines: Text::of(lines),
+        lines,
         empty: false,
     })
 }

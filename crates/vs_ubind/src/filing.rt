@@ -13,8 +13,7 @@ ghost use Rattle.vs_ubind.specs.Unbound.{filed, filed_entry, flag_of, last_save_
 use crate::chaining::{alt_nexts, alt_prevs};
 use crate::linking::{newest_of, time_of};
 use std::alloc::{AllocError, Global};
-use vs_entries::Entry;
-use vs_text::Line;
+use vs_entries::{Entry, each_line};
 use vs_ufile::{FileChange, FileEntry, FileHistory};
 use vs_undo::{MAX_SAVE, Node, Parts, last_child};
 
@@ -28,16 +27,6 @@ pub(crate) fn narrow(number: u64) -> Result<u32, AllocError>
     }
 }
 
-pub(crate) fn copies(alloc: Global, lines: &[Line]) -> Result<Vec<Line>, AllocError>
-    ensures { IfOk result (λ copies. copies.items ≡ lines.now) }
-{
-    let mut copies = Vec::with_capacity(alloc, lines.len())?;
-    for line in lines {
-        copies.push(line.clone()?)?;
-    }
-    Ok(copies)
-}
-
 fn file_entry(alloc: Global, entry: &Entry) -> Result<FileEntry, AllocError>
     ensures { IfOk result (λ filed. entry_of filed ≡ filed_entry entry.now) }
 {
@@ -45,7 +34,7 @@ fn file_entry(alloc: Global, entry: &Entry) -> Result<FileEntry, AllocError>
         top: narrow(entry.top)?,
         bottom: narrow(entry.bottom)?,
         count: 0,
-        lines: copies(alloc, entry.lines.lines())?,
+        lines: each_line(alloc, &entry.lines)?,
     })
 }
 

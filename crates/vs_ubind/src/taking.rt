@@ -4,12 +4,23 @@ ghost use Rattle.vs_ufile.specs.Values.{change_of, entry_of};
 ghost use Rattle.vs_ubind.specs.Meaning.{entries_in, flagged, taken};
 ghost use Rattle.vs_ubind.specs.Taken.{taken_change};
 
-use crate::filing::copies;
 use std::alloc::{AllocError, Global};
 use vs_entries::Entry;
-use vs_text::Text;
+use vs_pieces::EndedLines;
+use vs_text::{Line, append_lines};
 use vs_ufile::{FileChange, FileEntry};
 use vs_undo::{Entries, Node};
+
+// Copies of lines in one run of bytes.
+fn ended_lines(alloc: Global, lines: &[Line]) -> Result<EndedLines, AllocError>
+    ensures { IfOk result (λ ended. ended ≡ lines.now) }
+{
+    let mut bytes = Vec::new(alloc);
+    append_lines(lines, &mut bytes)?;
+    let mut ended = EndedLines::new(alloc);
+    ended.append(&bytes)?;
+    Ok(ended)
+}
 
 // An entry of the file, with this flag.
 fn take_entry(alloc: Global, entry: &FileEntry, flag: bool) -> Result<Entry, AllocError>
@@ -18,7 +29,7 @@ fn take_entry(alloc: Global, entry: &FileEntry, flag: bool) -> Result<Entry, All
     Ok(Entry {
         top: entry.top as u64,
         bottom: entry.bottom as u64,
-        lines: Text::of(copies(alloc, &entry.lines)?),
+        lines: ended_lines(alloc, &entry.lines)?,
         empty: flag,
     })
 }
@@ -51,7 +62,7 @@ fn no_exchange(alloc: Global, flag: bool) -> Result<Vec<Entry>, AllocError>
     own.push(Entry {
         top: 0,
         bottom: 1,
-        lines: Text::of(Vec::new(alloc)),
+        lines: EndedLines::new(alloc),
         empty: flag,
     })?;
     Ok(own)

@@ -17,7 +17,7 @@ splice-requires-clause-allowed g c =
     let is : c.in-Some.old ≡ range_in entry c.max-count.result = c.in-Some.ensures.range in
     let fits = c.in-Some.ensures.fits in
     let few = subst (λ n. count_after entry n ≤ MAX_LINES) (sym n_is) (c.requires.allowed.few_lines (subst (Fits entry) n_is fits)) in
-    let lines_are : c.lines.result.now ≡ entry.lines = cc in
+    let lines_are : c.deref.result.now ≡ entry.lines = c.deref.ensures.value ∙ c.in_ok-new.ensures in
     record {
       within = omega (arith, now, is, fits.above, fits.within);
       few_lines = omega (arith, now, is, fits.above, fits.within, few, ap length lines_are);
@@ -32,7 +32,7 @@ splice-requires-clause-allowed g c =
           let same : filled text ≡ after =
           g.met.S.LineStore.has_one c.lines_at.new.store (filled text) after (c.in_ok-gone.ensures.kept.present.text (filled text) (c.in_ok-fill.ensures.text text was.1)) has_after in
           let lines = splice (filled text) entry.top (range_in entry (length (filled text))) entry.lines in
-          let lines_is : lines ≡ splice after entry.top c.in-Some.old c.lines.result.now = cc in
+          let lines_is : lines ≡ splice after entry.top c.in-Some.old c.deref.result.now = cc in
           let few_bytes = c.requires.allowed.few_bytes text was.1 (subst (Fits entry) count fits) in
           omega (arith, ap bytes_of lines_is, bytes_of-settled entry.empty lines, few_bytes);
     }
@@ -44,7 +44,8 @@ returns-clause-text g c = λ text has.
     omega (arith, c.len-lines.ensures, length-filled text, g.met.S.LineStore.has_lines c.args.store.now text has) in
     let old : c.in-Some.old ≡ range_in entry (length (filled text)) = c.in-Some.ensures.range ∙ ap (range_in entry) count in
     let spliced = c.in_ok-splice.ensures.ok.text (filled text) (c.in_ok-gone.ensures.kept.present.text (filled text) (c.in_ok-fill.ensures.text text has)) in
-    let is : splice (filled text) entry.top c.in-Some.old c.lines.result.now ≡ splice (filled text) entry.top (range_in entry (length (filled text))) entry.lines = cc in
+    let lines_are : c.deref.result.now ≡ entry.lines = c.deref.ensures.value ∙ c.in_ok-new.ensures in
+    let is : splice (filled text) entry.top c.in-Some.old c.deref.result.now ≡ splice (filled text) entry.top (range_in entry (length (filled text))) entry.lines = cc in
     subst (λ lines. (g.S.LineStore.shows c.settle.new.store).present.Is (settled entry.empty lines)) is (c.in_ok-settle.ensures.text _ spliced)
 
 pub returns-clause-back : goal.returns-clause-back
@@ -57,6 +58,8 @@ returns-clause-back g c = λ text has.
     let gone : c.in_ok-gone.gone ≡ cut_out (filled text) entry.top (range_in entry (length (filled text))) =
     c.in_ok-gone.ensures.lines (filled text) (c.in_ok-fill.ensures.text text has) ∙ ap (cut_out (filled text) entry.top) old in
     let bare : nat_eq c.len-lines.result 0 ≡ has_no_lines text = bare_is text c.len-lines.result (lines ∙ sym c.len-lines.ensures) in
+    let lines_are : c.deref.result.now ≡ entry.lines = c.deref.ensures.value ∙ c.in_ok-new.ensures in
+    let more : c.len.result ≡ length entry.lines = omega (arith, c.len.ensures, c.deref.ensures.len, ap length lines_are) in
     let bottom = c.bottom_back.ensures in
     cc
 
@@ -90,7 +93,7 @@ returns-clause-counts g c =
     let n_is : c.max-count.result ≡ n = omega (arith, c.len-lines.ensures) in
     let fits : Fits entry n = subst (Fits entry) n_is c.in-Some.ensures.fits in
     let range : c.in-Some.old ≡ range_in entry n = c.in-Some.ensures.range ∙ ap (range_in entry) n_is in
-    let lines_are : c.lines.result.now ≡ entry.lines = cc in
+    let lines_are : c.deref.result.now ≡ entry.lines = c.deref.ensures.value ∙ c.in_ok-new.ensures in
     let is : max 1 (g.S.LineStore.shows c.settle.new.store).present.lines ≡ count_after entry n =
     omega (arith, range, fits.above, fits.within, c.in_ok-fill.ensures.lines, c.in_ok-gone.ensures.kept.present.lines, c.in_ok-splice.ensures.ok.lines, c.in_ok-settle.ensures.lines, ap length lines_are) in
     record { fits = fits; is = is; few = subst (λ k. k ≤ MAX_LINES) (sym is) (c.requires.allowed.few_lines fits); short = c.requires.allowed.short_lines }
