@@ -47,17 +47,20 @@ put_other : (m : Cells) (at : ℕ) (v : Option Cell) (k : ℕ) → k ≢ at → 
 put_other m at v k ne = grind (arith, nat_tests)
 
 -- what a place past the table had before a change: nothing
-undone_past : (m : Cells) (n : ℕ) (c : Change) → CanUndo m n c → ((k : ℕ) → n ≤ k → is_some (m k) ≡ false) → (k : ℕ) → places_before c n ≤ k → is_some (undone c m k) ≡ false
+undone_past : (m : Cells) (n : ℕ) (c : Change) → CanUndo m n c → ((k : ℕ) → n ≤ k → is_some (m k) ≡ false)
+    → (k : ℕ) → places_before c n ≤ k → is_some (undone c m k) ≡ false
 undone_past m n (kinds.Run run) can none k past = can.past k past
 undone_past m n (kinds.Patch patch) can none k past =
-    ap (λ (o : Option Cell). is_some o) (put_other m patch.at (rewritten (m patch.at) patch.from patch.was.items) k (λ e. omega (arith, e, past, can.inside))) ∙ none k past
+    let now = rewritten (m patch.at) patch.from patch.was.items in
+    ap (λ (o : Option Cell). is_some o) (put_other m patch.at now k (λ e. omega (arith, e, past, can.inside))) ∙ none k past
 
 fewer_before : (m : Cells) (n : ℕ) (c : Change) → CanUndo m n c → places_before c n ≤ n
 fewer_before m n (kinds.Run run) can = can.fewer
 fewer_before m n (kinds.Patch patch) can = omega arith
 
 -- at first there was nothing past the table
-pub first_past : (m : Cells) (n : ℕ) (cs : List Change) → CanUndoAll m n cs → ((k : ℕ) → n ≤ k → is_some (m k) ≡ false) → (k : ℕ) → n ≤ k → is_some (first_of m cs k) ≡ false
+pub first_past : (m : Cells) (n : ℕ) (cs : List Change) → CanUndoAll m n cs → ((k : ℕ) → n ≤ k → is_some (m k) ≡ false)
+    → (k : ℕ) → n ≤ k → is_some (first_of m cs k) ≡ false
 first_past m n [] can none k past = none k past
 first_past m n (c ∷ cs) can none k past =
     first_past (undone c m) (places_before c n) cs can.1 (undone_past m n c can.0 none) k (omega (arith, past, fewer_before m n c can.0))

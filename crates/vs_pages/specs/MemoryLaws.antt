@@ -40,7 +40,8 @@ length_zeros n = length-replicate (4096 * n) 0
 abbrev IsBackedAt : Option (List ℕ) → Option Cell → Type 0
 IsBackedAt away cell = IsTrue (is_away cell) → (page : List ℕ) → away ≡ Some page → length page ≡ 4096
 
-shown_size : (away : Option (List ℕ)) (cell : Option Cell) (page : List ℕ) → IsWhole cell → IsBackedAt away cell → shown away cell ≡ Some page → length page ≡ 4096
+shown_size : (away : Option (List ℕ)) (cell : Option Cell) (page : List ℕ) → IsWhole cell → IsBackedAt away cell
+    → shown away cell ≡ Some page → length page ≡ 4096
 shown_size away None page whole backed is = absurd (cc)
 shown_size away (Some Blank) page whole backed is = let same : zeros 1 ≡ page = cc in omega (arith, ap (λ (b : List ℕ). length b) same, length_zeros 1)
 shown_size away (Some Away) page whole backed is = backed refl page is
@@ -50,8 +51,8 @@ shown_there : (away : Option (List ℕ)) (cell : Option Cell) (page : List ℕ) 
 shown_there away None page none is = absurd (cc)
 shown_there away (Some cell) page none is = absurd (cc)
 
-pages_below : (away : Map) (kept : Cells) (n : ℕ) → n ≤ 2 ^ 40 → ((k : ℕ) → n ≤ k → is_some (kept k) ≡ false) → ((k : ℕ) → IsWhole (kept k)) → ((k : ℕ) → IsBackedAt (away k) (kept k))
-    → ArePages (seen away kept)
+pages_below : (away : Map) (kept : Cells) (n : ℕ) → n ≤ 2 ^ 40 → ((k : ℕ) → n ≤ k → is_some (kept k) ≡ false) → ((k : ℕ) → IsWhole (kept k))
+    → ((k : ℕ) → IsBackedAt (away k) (kept k)) → ArePages (seen away kept)
 pages_below away kept n bound none whole backed = record {
   sizes = λ k page is. shown_size (away k) (kept k) page (whole k) (backed k) is;
   below = λ k page is. elim (cases_lt k n) [ inl lt ↦ omega (arith, lt, bound) | inr past ↦ absurd (shown_there (away k) (kept k) page (none k past) is) ];
@@ -88,7 +89,8 @@ none_size page is = absurd (cc)
 pub are_present : (pages : MemPages) → ArePages (present_of pages)
 are_present pages =
     let places = pages.table.places.items in
-    pages_below no_pages (kept_of pages) (length places) pages.table.bound (cells_end places) (λ k. place_whole (slice_index_or places k None)) (λ k gone page is. none_size page is)
+    let whole : (k : ℕ) → IsWhole (kept_of pages k) = λ k. place_whole (slice_index_or places k None) in
+    pages_below no_pages (kept_of pages) (length places) pages.table.bound (cells_end places) whole (λ k gone page is. none_size page is)
 
 pub are_committed : (pages : MemPages) → ArePages (committed_of pages)
 are_committed pages =
