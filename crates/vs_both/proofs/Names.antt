@@ -3,7 +3,7 @@ use Rattle.std.proofs.Common.{◌≡◌, inl, inr, Bool, true, false, not, ◌||
 use Rattle.std.specs.Prelude.{Some, IfSome}
 use Rattle.std.specs.Str.{bytes_eq}
 use Rattle.std.proofs.lemmas.Slice.Eq.{bytes_eq-Decides}
-use Rattle.std.proofs.lemmas.Bool.{cases_Bool, true≢false}
+use Rattle.std.proofs.lemmas.Bool.{cases_Bool, true≢false, or_left, or_right}
 use Rattle.vs_host.specs.Disk.{Disk, Name, IsFolder}
 use Rattle.vs_host.specs.declared.names.Names.{Names}
 use Rattle.vs_disk.specs.Names.{IsApart, SameAt}
@@ -29,14 +29,6 @@ others_in_family party name is = and_first (party.family name) (is_foreign party
 
 pub others_foreign : (party : Party) → AreIn (is_foreign party.names) (others_of party)
 others_foreign party name is = and_second (party.family name) (is_foreign party.names name) is
-
-or_left : (a b : Bool) → a ≡ true → (a || b) ≡ true
-or_left true b is = refl
-or_left false b is = absurd (true≢false (sym is))
-
-or_right : (a b : Bool) → b ≡ true → (a || b) ≡ true
-or_right true b is = refl
-or_right false b is = is
 
 itself : (a : Name) → bytes_eq a a ≡ true
 itself a = (bytes_eq-Decides a a).1 refl

@@ -1,9 +1,10 @@
 -- All names that a session works on are of its file's family, so sessions on files that do not clash have nothing to do with each other.
 use Rattle.std.proofs.Common.{◌≡◌, ◌⊎◌, inl, inr, ℕ, Bool, true, false, cond, not, ◌||◌, ◌&&◌, List, [], ◌∷◌, map, Option, Some, None, refl, sym, ◌∙◌, ap, subst}
+use Rattle.std.proofs.lemmas.Option.{same_Some}
 use Rattle.std.specs.Prelude.{IsTrue, is_some}
 use Rattle.std.specs.Str.{bytes_eq}
 use Rattle.std.proofs.lemmas.Slice.Eq.{bytes_eq-Decides}
-use Rattle.std.proofs.lemmas.Bool.{cases_Bool, cond-true, cond-false, true≢false, false≢true}
+use Rattle.std.proofs.lemmas.Bool.{cases_Bool, cond-true, cond-false, true≢false, false≢true, or_left, or_right, or_cases, and_from}
 use Rattle.vs_host.specs.Disk.{Disk, Name, content_in}
 use Rattle.vs_host.specs.Names.{AreNames, is_allowed, names_in, names_of_file, temporary}
 use Rattle.vs_host.specs.declared.names.Names.{Names}
@@ -17,22 +18,6 @@ use Rattle.vs_safety.specs.Writes.{outside}
 use Rattle.vs_safety.proofs.UndoFiles.{undo_foreign}
 use Rattle.vs_both.specs.Beside.{AreBeside, HasFamily}
 use Rattle.vs_both.specs.Parties.{party_of}
-
-or_left : (a b : Bool) → a ≡ true → (a || b) ≡ true
-or_left true b is = refl
-or_left false b is = absurd (true≢false (sym is))
-
-or_right : (a b : Bool) → b ≡ true → (a || b) ≡ true
-or_right true b is = refl
-or_right false b is = is
-
-or_split : (a b : Bool) → (a || b) ≡ true → (a ≡ true) ⊎ (b ≡ true)
-or_split true b is = inl refl
-or_split false b is = inr is
-
-both : (a b : Bool) → a ≡ true → b ≡ true → (a && b) ≡ true
-both true b a is = is
-both false b a is = absurd (true≢false (sym a))
 
 itself : (a : Name) → bytes_eq a a ≡ true
 itself a = (bytes_eq-Decides a a).1 refl
@@ -97,21 +82,18 @@ module _ (file : Name) where
   undo_new_in = in_family names.undo_new (inr (inr (inr (inr (inr (inr (inr (itself names.undo_new))))))))
 
   pair_in : (name : Name) → is_pair_name names name ≡ true → is_of_family file name ≡ true
-  pair_in name is = elim (or_split (bytes_eq names.swp name || bytes_eq names.swo name) (bytes_eq names.swp_new name || bytes_eq names.swo_new name) is) [
-    | inl swap ↦ elim (or_split (bytes_eq names.swp name) (bytes_eq names.swo name) swap) [
+  pair_in name is = elim (or_cases (bytes_eq names.swp name || bytes_eq names.swo name) (bytes_eq names.swp_new name || bytes_eq names.swo_new name) is) [
+    | inl swap ↦ elim (or_cases (bytes_eq names.swp name) (bytes_eq names.swo name) swap) [
       | inl swp ↦ same_in names.swp name swp_in swp
       | inr swo ↦ same_in names.swo name swo_in swo
     ]
-    | inr made ↦ elim (or_split (bytes_eq names.swp_new name) (bytes_eq names.swo_new name) made) [
+    | inr made ↦ elim (or_cases (bytes_eq names.swp_new name) (bytes_eq names.swo_new name) made) [
       | inl swp ↦ same_in names.swp_new name swp_new_in swp
       | inr swo ↦ same_in names.swo_new name swo_new_in swo
     ]
   ]
 
 -- ---- backups
-
-some_same : (a b : Name) → Some a ≡ Some b → a ≡ b
-some_same a b e = cc
 
 none_some : (a : Name) (X : Type 0) → None ≡ Some a → X
 none_some a X e = cc
@@ -123,7 +105,7 @@ free_is disk [] free is = none_some free _ is
 free_is disk (name ∷ names) free is = elim (cases_Bool (is_some (content_in disk name))) [
   | inl taken ↦ or_right (bytes_eq free name) (any (bytes_eq free) names) (free_is disk names free (sym (cond-true (is_some (content_in disk name)) (first_free disk names) (Some name) taken) ∙ is))
   | inr open_here ↦
-      let same : name ≡ free = some_same name free (sym (cond-false (is_some (content_in disk name)) (first_free disk names) (Some name) open_here) ∙ is) in
+      let same : name ≡ free = same_Some name free (sym (cond-false (is_some (content_in disk name)) (first_free disk names) (Some name) open_here) ∙ is) in
       or_left (bytes_eq free name) (any (bytes_eq free) names) ((bytes_eq-Decides free name).1 (sym same))
 ]
 
@@ -134,7 +116,7 @@ plain_is file = or_left (bytes_eq (backup_name file) (backup_name file)) _ (itse
 backup_is : (options : WriteOptions) (file : Name) (disk : Disk) (backup : Name) → backup_of options file disk ≡ Some backup → any (bytes_eq backup) (candidates file) ≡ true
 backup_is options file disk backup is = elim (cases_Bool options.backup) [
   | inl on ↦
-      let same : backup_name file ≡ backup = some_same (backup_name file) backup (sym (cond-true options.backup (Some (backup_name file)) (cond options.writebackup (first_free disk (candidates file)) None) on) ∙ is) in
+      let same : backup_name file ≡ backup = same_Some (backup_name file) backup (sym (cond-true options.backup (Some (backup_name file)) (cond options.writebackup (first_free disk (candidates file)) None) on) ∙ is) in
       subst (λ (b : Name). any (bytes_eq b) (candidates file) ≡ true) same (plain_is file)
   | inr off ↦
       let rest = sym (cond-false options.backup (Some (backup_name file)) (cond options.writebackup (first_free disk (candidates file)) None) off) ∙ is in
@@ -174,7 +156,7 @@ pub has_family : (file : Name) (line : List ℕ) → IsTrue (is_allowed file) �
 has_family file line allowed = record {
   pair = foreign_out file;
   files = files_in file;
-  undo = both (is_of_family file (names_of_file file).undo) (is_foreign (names_of_file file) (names_of_file file).undo) (undo_in file) (undo_foreign (names_of_file file) (record { allowed = allowed; others = refl }));
+  undo = and_from (is_of_family file (names_of_file file).undo) (is_foreign (names_of_file file) (names_of_file file).undo) (undo_in file) (undo_foreign (names_of_file file) (record { allowed = allowed; others = refl }));
 }
 
 pub are_beside : (one two : Name) (line other : List ℕ) → IsTrue (is_allowed one) → IsTrue (is_allowed two) → clash one two ≡ false → AreBeside (party_of one line) (party_of two other)

@@ -2,7 +2,7 @@
 use Rattle.std.proofs.Common.{◌≡◌, ◌≢◌, ◌≤◌, ◌<◌, ◌+◌, ℕ, List, [], ◌∷◌, ◌++◌, length, take, drop, get_or, reverse, Bool, true, false, Some, None, refl, sym, ap, ◌∙◌, arith, inl, inr}
 use Rattle.std.specs.Prelude.{ℤ, pos, negsuc, ◌==◌, ◌&&◌, nat_le, nat_lt, if◌then◌else◌, Result, Ok, Err, OnOk}
 use Rattle.std.specs.List.{before_first}
-use Rattle.std.proofs.lemmas.Bool.{cases_eq}
+use Rattle.std.proofs.lemmas.Bool.{cases_eq, false_from_ne_true}
 use Rattle.std.proofs.lemmas.Bool.Decides.{nat_tests}
 use Rattle.std.proofs.Math.Seq.{take-length}
 use Rattle.std.proofs.lemmas.List.{reverse-append, drop_more}
@@ -15,17 +15,13 @@ use Rattle.vs_damaged.specs.declared.shown.Marker.TheVariants.{LineCountWrong}
 use Rattle.vs_damaged.specs.Finds.{if_other_count}
 use Rattle.vs_damaged.specs.Items.{Item, TheMarker}
 
-not_true : (b : Bool) → (b ≡ true → ⊥) → b ≡ false
-not_true true h = absurd (h refl)
-not_true false h = refl
-
 pub before_some : (bytes : List ℕ) (k : ℕ) → IsFirstByte (is_byte 0) bytes (Some k) → take k bytes ≡ before_first (λ byte. byte == 0) bytes
 before_some bytes k is = ap (λ n. take n bytes)
-    (sym (position_or_len_is (λ byte. byte == 0) bytes k 0 (omega (arith, is.0.high)) (λ j lt. not_true (get_or bytes j 0 == 0) (λ passes. is.0.before j (omega arith) lt passes)) (λ lt. is.1)))
+    (sym (position_or_len_is (λ byte. byte == 0) bytes k 0 (omega (arith, is.0.high)) (λ j lt. false_from_ne_true (get_or bytes j 0 == 0) (λ passes. is.0.before j (omega arith) lt passes)) (λ lt. is.1)))
 
 pub before_none : (bytes : List ℕ) → IsFirstByte (is_byte 0) bytes None → bytes ≡ before_first (λ byte. byte == 0) bytes
 before_none bytes is = sym (take-length bytes) ∙ ap (λ n. take n bytes)
-    (sym (position_or_len_is (λ byte. byte == 0) bytes (length bytes) 0 (omega arith) (λ j lt. not_true (get_or bytes j 0 == 0) (λ passes. is j (omega arith) lt passes)) (λ lt. absurd (omega arith))))
+    (sym (position_or_len_is (λ byte. byte == 0) bytes (length bytes) 0 (omega arith) (λ j lt. false_from_ne_true (get_or bytes j 0 == 0) (λ passes. is j (omega arith) lt passes)) (λ lt. absurd (omega arith))))
 
 pub picks_first : (low at high : ℕ) (x y : Item) → low ≤ at → at < high → (if nat_le low at && nat_lt at high then x else y) ≡ x
 picks_first low at high x y le lt = grind (arith, nat_tests)
@@ -52,7 +48,3 @@ reversed_more left more all x d at lt is before =
 pub entries_len : (block : List ℕ) (view : PtrView) → view_in block ≡ Ok view → length (entries_of block) ≡ view.count
 unfolding entries_in
 entries_len block view is = rw is (count_of_entries block ∙ (header_from_view block view is).count)
-
-pub on_ok : {T E : Type 0} {P Q : Type 0} (r : Result T E) → (P → Q) → OnOk r P → OnOk r Q
-on_ok (Ok x) leads holds = leads holds
-on_ok (Err e) leads holds = holds

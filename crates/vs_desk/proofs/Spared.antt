@@ -1,5 +1,6 @@
 -- A write of a text works on no swap file, so these are spared, and the text goes on to fit the folder.
 use Rattle.std.proofs.Common.{◌≡◌, ◌⊎◌, inl, inr, ℕ, zero, suc, ◌<◌, [], ◌∷◌, Bool, true, false, not, List, length, map, Some, None, IsTrue, refl, sym, ◌∙◌, ap, subst}
+use Rattle.std.proofs.lemmas.Option.{same_Some}
 use Rattle.std.specs.Prelude.{is_some}
 use Rattle.std.specs.List.{AllByRecursion}
 use Rattle.std.proofs.lemmas.Bool.{cases_Bool}
@@ -38,9 +39,6 @@ use Rattle.vs_desk.specs.Writes.{KeepsSwap}
 none_some : (name : Name) (X : Type 0) → None ≡ Some name → X
 none_some name X e = cc
 
-some_same : (a b : Name) → Some a ≡ Some b → a ≡ b
-some_same a b e = cc
-
 no_name : (disk : Disk) → first_free disk [] ≡ None
 unfolding first_free
 no_name disk = refl
@@ -49,7 +47,7 @@ found_free : (P : Name → Type 0) (disk : Disk) (names : List Name) (backup : N
 found_free P disk [] backup all found = none_some backup _ (sym (no_name disk) ∙ found)
 found_free P disk (name ∷ names) backup all found = elim (cases_Bool (is_some (content_in disk name))) [
   | inl taken ↦ found_free P disk names backup all.1 (sym (free_later disk name names taken) ∙ found)
-  | inr free ↦ subst P (some_same name backup (sym (free_here disk name names free) ∙ found)) all.0
+  | inr free ↦ subst P (same_Some name backup (sym (free_here disk name names free) ∙ found)) all.0
 ]
 
 no_letter : letters 0 ≡ []
@@ -75,7 +73,7 @@ off_name options name disk keep make = rw (keep, make) refl
 -- the backup of a write is one of those that it may get
 pub chosen_name : (options : WriteOptions) (name : Name) (disk : Disk) (backup : Name) → 0 < length name → backup_of options name disk ≡ Some backup → IsBackupName name backup
 chosen_name options name disk backup some chosen = elim (cases_Bool options.backup) [
-  | inl keep ↦ subst (λ (n : Name). IsBackupName name n) (some_same (backup_name name) backup (sym (kept_name options name disk keep) ∙ chosen)) (IsBackupName-plain name)
+  | inl keep ↦ subst (λ (n : Name). IsBackupName name n) (same_Some (backup_name name) backup (sym (kept_name options name disk keep) ∙ chosen)) (IsBackupName-plain name)
   | inr off ↦ elim (cases_Bool options.writebackup) [
     | inl make ↦ found_free (IsBackupName name) disk (candidates name) backup (all_candidates name some) (sym (free_name options name disk off make) ∙ chosen)
     | inr none ↦ none_some backup _ (sym (off_name options name disk off none) ∙ chosen)

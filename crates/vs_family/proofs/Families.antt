@@ -2,23 +2,11 @@
 use Rattle.std.proofs.Common.{◌≡◌, ◌⊎◌, ◌↔◌, inl, inr, Bool, true, false, ◌||◌, List, [], ◌∷◌, refl, sym, ◌∙◌, ap}
 use Rattle.std.specs.Str.{bytes_eq}
 use Rattle.std.proofs.lemmas.Slice.Eq.{bytes_eq-Decides}
-use Rattle.std.proofs.lemmas.Bool.{cases_Bool, true≢false}
+use Rattle.std.proofs.lemmas.Bool.{cases_Bool, true≢false, or_cases, or_left, or_right}
 use Rattle.vs_host.specs.Disk.{Name}
 use Rattle.vs_host.specs.Names.{names_in, names_of_file, temporary}
 use Rattle.vs_backup.specs.Backups.{candidates}
 use Rattle.vs_family.specs.Family.{SharesName, any, clash, is_of_family, lasting_names, with_temporary}
-
-or_split : (a b : Bool) → (a || b) ≡ true → (a ≡ true) ⊎ (b ≡ true)
-or_split true b is = inl refl
-or_split false b is = inr is
-
-or_left : (a b : Bool) → a ≡ true → (a || b) ≡ true
-or_left true b is = refl
-or_left false b is = absurd (true≢false (sym is))
-
-or_right : (a b : Bool) → b ≡ true → (a || b) ≡ true
-or_right true b is = refl
-or_right false b is = is
 
 itself : (a : Name) → bytes_eq a a ≡ true
 itself a = (bytes_eq-Decides a a).1 refl
@@ -29,13 +17,13 @@ passes test a b same is = ap test (sym ((bytes_eq-Decides a b).0 same)) ∙ is
 -- ---- one name and the one under which its file is made
 
 temporary_found : (test : Name → Bool) (one : Name) → with_temporary test one ≡ true → (name : Name) × (test name ≡ true) × (with_temporary (bytes_eq name) one ≡ true)
-temporary_found test one is = elim (or_split (test one) (test (temporary one)) is) [
+temporary_found test one is = elim (or_cases (test one) (test (temporary one)) is) [
   | inl here ↦ (one, here, or_left (bytes_eq one one) (bytes_eq one (temporary one)) (itself one))
   | inr made ↦ (temporary one, made, or_right (bytes_eq (temporary one) one) (bytes_eq (temporary one) (temporary one)) (itself (temporary one)))
 ]
 
 temporary_passes : (test : Name → Bool) (name one : Name) → with_temporary (bytes_eq name) one ≡ true → test name ≡ true → with_temporary test one ≡ true
-temporary_passes test name one is pass = elim (or_split (bytes_eq name one) (bytes_eq name (temporary one)) is) [
+temporary_passes test name one is pass = elim (or_cases (bytes_eq name one) (bytes_eq name (temporary one)) is) [
   | inl here ↦ or_left (test one) (test (temporary one)) (passes test name one here pass)
   | inr made ↦ or_right (test one) (test (temporary one)) (passes test name (temporary one) made pass)
 ]
@@ -44,14 +32,14 @@ temporary_passes test name one is pass = elim (or_split (bytes_eq name one) (byt
 
 made_found : (test : Name → Bool) (names : List Name) → any (with_temporary test) names ≡ true → (name : Name) × (test name ≡ true) × (any (with_temporary (bytes_eq name)) names ≡ true)
 made_found test [] is = absurd (true≢false (sym is))
-made_found test (one ∷ names) is = elim (or_split (with_temporary test one) (any (with_temporary test) names) is) [
+made_found test (one ∷ names) is = elim (or_cases (with_temporary test one) (any (with_temporary test) names) is) [
   | inl here ↦ let found = temporary_found test one here in (found.0, found.1, or_left (with_temporary (bytes_eq found.0) one) (any (with_temporary (bytes_eq found.0)) names) found.2)
   | inr later ↦ let found = made_found test names later in (found.0, found.1, or_right (with_temporary (bytes_eq found.0) one) (any (with_temporary (bytes_eq found.0)) names) found.2)
 ]
 
 made_passes : (test : Name → Bool) (name : Name) (names : List Name) → any (with_temporary (bytes_eq name)) names ≡ true → test name ≡ true → any (with_temporary test) names ≡ true
 made_passes test name [] is pass = is
-made_passes test name (one ∷ names) is pass = elim (or_split (with_temporary (bytes_eq name) one) (any (with_temporary (bytes_eq name)) names) is) [
+made_passes test name (one ∷ names) is pass = elim (or_cases (with_temporary (bytes_eq name) one) (any (with_temporary (bytes_eq name)) names) is) [
   | inl here ↦ or_left (with_temporary test one) (any (with_temporary test) names) (temporary_passes test name one here pass)
   | inr later ↦ or_right (with_temporary test one) (any (with_temporary test) names) (made_passes test name names later pass)
 ]
@@ -122,14 +110,14 @@ of_backups file name is =
 
 to_plain : (backup : Name) (names : List Name) → any (bytes_eq backup) names ≡ true → any (with_temporary (bytes_eq backup)) names ≡ true
 to_plain backup [] is = is
-to_plain backup (name ∷ names) is = elim (or_split (bytes_eq backup name) (any (bytes_eq backup) names) is) [
+to_plain backup (name ∷ names) is = elim (or_cases (bytes_eq backup name) (any (bytes_eq backup) names) is) [
   | inl same ↦ or_left (with_temporary (bytes_eq backup) name) (any (with_temporary (bytes_eq backup)) names) (or_left (bytes_eq backup name) (bytes_eq backup (temporary name)) same)
   | inr more ↦ or_right (with_temporary (bytes_eq backup) name) (any (with_temporary (bytes_eq backup)) names) (to_plain backup names more)
 ]
 
 to_made : (backup : Name) (names : List Name) → any (bytes_eq backup) names ≡ true → any (with_temporary (bytes_eq (temporary backup))) names ≡ true
 to_made backup [] is = is
-to_made backup (name ∷ names) is = elim (or_split (bytes_eq backup name) (any (bytes_eq backup) names) is) [
+to_made backup (name ∷ names) is = elim (or_cases (bytes_eq backup name) (any (bytes_eq backup) names) is) [
   | inl same ↦ or_left (with_temporary (bytes_eq (temporary backup)) name) (any (with_temporary (bytes_eq (temporary backup))) names)
       (or_right (bytes_eq (temporary backup) name) (bytes_eq (temporary backup) (temporary name))
       ((bytes_eq-Decides (temporary backup) (temporary name)).1 (ap temporary ((bytes_eq-Decides backup name).0 same))))

@@ -1,5 +1,6 @@
 -- Trees beside each other, exchanged one after the other for those below them, or some at a time for one above them.
 use Rattle.std.proofs.Common.{◌≡◌, ℕ, zero, suc, ◌+◌, ◌-◌, ◌<◌, ◌≤◌, List, [], ◌∷◌, ◌++◌, length, get_or, take, drop, map, Option, Some, None, IsSome, is_some, refl, sym, ap, subst, ◌∙◌, inl, inr, arith, append_assoc, length-append}
+use Rattle.std.proofs.lemmas.Option.{same_Some}
 use Rattle.std.specs.List.{flat_map, AllByRecursion}
 use Rattle.std.proofs.lemmas.Bool.{cases_lt}
 use Rattle.std.proofs.lemmas.List.{append-nil, map-append, length-map}
@@ -113,9 +114,6 @@ exchanges_more m n1 n2 d e es now more f i r us x w more_is lines filled =
     exchanges_run m n1 n2 d e es now more f i (i + 1) (r.item ∷ []) r.after us r.cut r.more x
     (replaces_as tree_format n1 n2 e (λ k. uses d r.item k) (λ k. uses d r.item k + 0) us (λ k. omega arith) w) more_is (lines ∙ sym (append-nil (lines_of d r.item))) (λ each. filled each.0)
 
-same_list : (a b : List Entry) → Some a ≡ Some b → a ≡ b
-same_list a b e = cc
-
 -- the next pointer block can be read
 pub next_leads : (m n : Map) (d : ℕ) (es now : List Entry) (f : HasForest m (suc d) es) (i : ℕ) (entry : Entry) → i < length es → entry ≡ get_or es i no_entry → Exchanges m n (suc d) d (take i f.trees) now → LeadsToPointers n entry
 next_leads m n d es now f i entry lt is x =
@@ -137,7 +135,7 @@ opens_more m n1 n2 d es now more f i entry lt is x reads gone =
     let same : entry ≡ entry_of (suc d) r.item = is ∙ nth_entry (suc d) f.trees es i r (omega (arith, lt, forest_size m (suc d) es f)) f.entries_are in
     let block : entry.block ≡ r.item.0 = ap (λ (y : Entry). y.block) same in
     let tree : IsTree tree_format (suc d) n1 r.item = next_there m n1 (suc d) d es now f i r x in
-    let more_is : more ≡ map (λ u. entry_of d u) r.item.1 = same_list more (map (λ u. entry_of d u) r.item.1) (sym reads ∙ ap (λ (b : ℕ). entries_at n1 b) block ∙ tree.0) in
+    let more_is : more ≡ map (λ u. entry_of d u) r.item.1 = same_Some more (map (λ u. entry_of d u) r.item.1) (sym reads ∙ ap (λ (b : ℕ). entries_at n1 b) block ∙ tree.0) in
     exchanges_more m n1 n2 (suc d) d es now more f i r r.item.1 x
     (opened tree_format n1 n2 d r.item tree (λ k. next_once m n1 (suc d) d es now f i k r x) (gone ∙ ap (λ (b : ℕ). without n1 b 1) block)) more_is refl (λ filled. filled.1)
 
@@ -240,7 +238,7 @@ closes_more m n1 n2 d block at count es now part entry bytes f le many x part_is
 pub root_forest : (m : Map) (d : ℕ) (list : List (List ℕ)) (es : List Entry) (has : HasLines tree_format m (suc d) list) → entries_at m 1 ≡ Some es → HasForest m d es
 root_forest m d list es has reads = record {
   trees = has.tree.1;
-  entries_are = same_list es (map (λ u. entry_of d u) has.tree.1) (sym reads ∙ ap (λ (b : ℕ). entries_at m b) (sym has.stands.root) ∙ has.stands.tree.0);
+  entries_are = same_Some es (map (λ u. entry_of d u) has.tree.1) (sym reads ∙ ap (λ (b : ℕ). entries_at m b) (sym has.stands.root) ∙ has.stands.tree.0);
   each = has.stands.tree.1;
   once = λ k. omega (arith, room tree_format (suc d) m 1 1 has.tree k has.stands);
 }

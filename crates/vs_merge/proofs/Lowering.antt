@@ -1,5 +1,6 @@
 -- Block 1 with one entry takes over the block below it, and the tree is as ready for what follows as it was.
 use Rattle.std.proofs.Common.{◌≡◌, ℕ, zero, suc, ◌+◌, ◌-◌, ◌*◌, ◌<◌, ◌≤◌, ◌^◌, Bool, true, false, if◌then◌else◌, List, [], ◌∷◌, length, get_or, map, Some, IsSome, refl, sym, ap, subst, ◌∙◌, arith}
+use Rattle.std.proofs.lemmas.Option.{same_Some}
 use Rattle.std.specs.List.{AllByRecursion}
 use Rattle.std.proofs.lemmas.List.{length-map}
 use Rattle.vs_pages.specs.Maps.{Map, one, total, pages_at, put_pages, without}
@@ -33,9 +34,6 @@ root_leads m (suc d) lines s = record {
   single = refl;
 }
 
-same_some : (a b : List Entry) → Some a ≡ Some b → a ≡ b
-same_some a b is = cc
-
 -- the only block below block 1
 pub record Only (m : Map) (e : ℕ) (list : List (List ℕ)) (has : HasLines tree_format m (suc (suc e)) list) (entry : Entry) : Type 0 where
   pub tree : Tree (suc e)
@@ -50,7 +48,7 @@ one_of (x ∷ []) one_is = (x, refl)
 one_of (x ∷ y ∷ xs) one_is = absurd (omega (arith, one_is))
 
 counted : (m : Map) (e : ℕ) (list : List (List ℕ)) (has : HasLines tree_format m (suc (suc e)) list) (es : List Entry) → entries_at m 1 ≡ Some es → es ≡ map (λ u. entry_of (suc e) u) has.tree.1
-counted m e list has es reads = same_some es (map (λ u. entry_of (suc e) u) has.tree.1) (sym reads ∙ root_reads m (suc e) list has)
+counted m e list has es reads = same_Some es (map (λ u. entry_of (suc e) u) has.tree.1) (sym reads ∙ root_reads m (suc e) list has)
 
 pub the_only : (m : Map) (e : ℕ) (list : List (List ℕ)) (has : HasLines tree_format m (suc (suc e)) list) (es : List Entry) (x d : Entry) → entries_at m 1 ≡ Some es → length es ≡ 1 → x ≡ get_or es 0 d → Only m e list has x
 the_only m e list has es entry d reads one_is got =
@@ -83,7 +81,7 @@ pub took_only : (m n1 n2 : Map) (e : ℕ) (list : List (List ℕ)) (has : HasLin
     → Stored m n1 1 1 bytes → points_in bytes ≡ Some below → n2 ≡ without n1 entry.block 1 → TakesOver m n2 e list has true
 took_only m n1 n2 e list has entry below bytes x reads s points is =
     let block : entry.block ≡ x.tree.0 = ap (λ (y : Entry). y.block) x.entry_is in
-    let kids : below ≡ map (λ v. entry_of e v) x.tree.1 = same_some below (map (λ v. entry_of e v) x.tree.1) (sym reads ∙ ap (λ (b : ℕ). entries_at m b) block ∙ x.is.0) in
+    let kids : below ≡ map (λ v. entry_of e v) x.tree.1 = same_Some below (map (λ v. entry_of e v) x.tree.1) (sym reads ∙ ap (λ (b : ℕ). entries_at m b) block ∙ x.is.0) in
     let r = took_over tree_format m n1 n2 e x.tree.0 x.tree.1 list bytes has x.only s (points ∙ ap (λ xs. Some xs) kids) (is ∙ ap (λ b. without n1 b 1) block) in
     (r.0, x.tree.0, x.only ∙ ap (λ (us : List (Tree e)). let u : Tree (suc e) = (x.tree.0, us) in u ∷ []) (sym (ap (λ (t : Tree (suc e)). t.1) r.1)))
 

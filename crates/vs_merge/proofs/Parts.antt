@@ -1,5 +1,6 @@
 -- Lines taken out one after another, and others put in at their place: as one splice.
 use Rattle.std.proofs.Common.{◌≡◌, ℕ, ◌+◌, ◌-◌, ◌≤◌, All, List, [], length, sym, ap, subst, ◌∙◌, arith}
+use Rattle.std.proofs.lemmas.List.Elements.{All-nil}
 use Rattle.vs_edit.specs.Splices.{IsSmallSplice, cut_out, splice}
 use Rattle.vs_edit.proofs.SpliceLemmas.{splice_none, splice_on}
 
@@ -28,22 +29,19 @@ taken_all text new top old last all within rest =
 
 -- the parts of a small splice
 
-all_none : (P : List ℕ → Type 0) → All P []
-all_none P = λ k d lt. absurd (omega (arith, lt))
-
 pub small_out : (text new : List (List ℕ)) (top old : ℕ) → old ≡ 1 → IsSmallSplice text top old new → IsSmallSplice text top 1 []
 small_out text new top old one small = record {
   few_out = omega arith;
   few_in = omega arith;
   brief_out = subst (λ (k : ℕ). All (λ line. length line ≤ 4067) (cut_out text top k)) one small.brief_out;
-  brief_in = all_none (λ line. length line ≤ 4067);
+  brief_in = All-nil (λ line. length line ≤ 4067);
 }
 
 pub small_in : (text then new : List (List ℕ)) (top old : ℕ) → IsSmallSplice text top old new → IsSmallSplice then top 0 new
 small_in text then new top old small = record {
   few_out = omega arith;
   few_in = small.few_in;
-  brief_out = all_none (λ line. length line ≤ 4067);
+  brief_out = All-nil (λ line. length line ≤ 4067);
   brief_in = small.brief_in;
 }
 

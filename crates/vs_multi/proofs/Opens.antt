@@ -1,7 +1,7 @@
 -- Two files are opened, one after the other: each opening leaves the family of the other file, so that what is said of each goes on to hold.
 use Rattle.std.proofs.Common.{◌≡◌, ◌⊎◌, inl, inr, ℕ, Bool, true, false, not, ◌&&◌, ◌||◌, List, [], ◌∷◌, Option, Some, None, Result, Ok, Err, IsErr, IsErrAnd, IsErrOf, IfSome, IsSome, IsSomeAnd, IsTrue, refl, sym, ◌∙◌, ap, subst}
 use Rattle.std.specs.Str.{bytes_eq}
-use Rattle.std.proofs.lemmas.Bool.{cases_Bool, true≢false}
+use Rattle.std.proofs.lemmas.Bool.{cases_Bool, true≢false, or_left}
 use Rattle.vs_faults.specs.Faults.{HasCause, IsQuiet}
 use Rattle.vs_faults.proofs.Causes.{HasCause-weaker}
 use Rattle.vs_host.specs.Disk.{Disk, Name, content_in, names_at}
@@ -55,10 +55,6 @@ content_stays inside name old new same is =
       | inl is ↦ is
       | inr out ↦ absurd (not out)
     ]
-
-or_left : (a b : Bool) → a ≡ true → (a || b) ≡ true
-or_left true b is = refl
-or_left false b is = absurd (true≢false (sym is))
 
 -- the file of the family
 file_stays : (file : Name) (old new : Disk) → SameAt (is_of_family file) old new → content_in new file ≡ content_in old file

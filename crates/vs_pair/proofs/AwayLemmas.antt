@@ -1,5 +1,6 @@
 -- Pages that are away: the file that has them, and another one that takes its place.
 use Rattle.std.proofs.Common.{Bool, IsTrue, ◌≡◌, ◌≢◌, inl, inr, ℕ, ◌+◌, ◌-◌, ◌*◌, ◌^◌, ◌<◌, ◌≤◌, false, List, [], length, take, drop, Option, Some, None, IsSome, is_some, refl, sym, ◌∙◌, ap, subst, arith}
+use Rattle.std.proofs.lemmas.Option.{same_Some}
 use Rattle.std.specs.Prelude.{IfSome, IsSomeAnd}
 use Rattle.std.proofs.lemmas.Bool.{cases_Bool, cases_lt, true≢false}
 use Rattle.std.proofs.lemmas.Bool.Decides.{nat_tests}
@@ -53,14 +54,11 @@ away_same files old new same =
     let here = same.now name inside in
     ap pages_read (ap (λ (o : Option ℕ). read_under new o) here ∙ content_from old new (names_of old name) (λ number is. same.files 0 name number inside (here ∙ is)))
 
-some_same : (a b : ℕ) → Some a ≡ Some b → a ≡ b
-some_same a b e = cc
-
 module _ (files : Known) (disk : Disk) (newest : Synced) (begun past : List Synced) (fit : IsFit files disk newest begun past) where
   -- the two files are two
   pub fit_two : AreApart disk (name_of files.names (other_side files.newer)) (name_of files.names files.newer)
   fit_two number older newer =
-      fit.differ (some_same fit.newer_number number (sym (fit.newer.leads 0) ∙ newer) ∙ sym (some_same fit.older_number number (sym (fit.older.leads 0) ∙ older)))
+      fit.differ (same_Some fit.newer_number number (sym (fit.newer.leads 0) ∙ newer) ∙ sym (same_Some fit.older_number number (sym (fit.older.leads 0) ∙ older)))
 
   -- the newer one has the pages of the newest sync
   pub fit_stands : (k : ℕ) (page : List ℕ) → 1 ≤ k → newest.pages k ≡ Some page → pages_under disk (name_of files.names files.newer) k ≡ Some page

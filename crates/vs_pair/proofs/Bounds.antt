@@ -2,7 +2,7 @@
 -- shorter than there are.
 use Rattle.std.proofs.Common.{◌≡◌, inl, inr, ℕ, zero, suc, ◌+◌, ◌-◌, ◌^◌, ◌<◌, ◌≤◌, ◌&&◌, not, Bool, true, false, nat_eq, nat_le, List, [], ◌∷◌, length, IsSome, IsTrue, Option, refl, sym, ◌∙◌, ap, subst, arith}
 use Rattle.std.specs.Prelude.{Contains, is_some}
-use Rattle.std.proofs.lemmas.Bool.{cases_Bool, cases_lt, or_cases, true≢false}
+use Rattle.std.proofs.lemmas.Bool.{cases_Bool, cases_lt, or_cases, true≢false, and_parts}
 use Rattle.std.proofs.lemmas.Bool.Decides.{nat_tests}
 use Rattle.vs_host.specs.World.{Tells, Scene}
 use Rattle.vs_pages.specs.Cells.{Cell}
@@ -143,10 +143,6 @@ counted : (pages : MemPages) (has : Written) (n : ℕ) → stale_below (commits_
 counted pages has zero = refl
 counted pages has (suc n) = ap (λ (m : ℕ). one_if (nat_le 1 n && is_stale (commits_of pages) has n) + m) (counted pages has n)
 
-both_true : (a b : Bool) → (a && b) ≡ true → (a ≡ true) × (b ≡ true)
-both_true true b is = (refl, is)
-both_true false b is = absurd (true≢false (sym is))
-
 module _ (away : Map) (pages : MemPages) (backed : AreBacked away pages) (has : Written) (reach : HasReach (held_with away pages) has.commits has.end) (end : ℕ) (numbers : List ℕ) (changed : HasChanged pages has end numbers) (ends : HasLast pages end) where
   -- what lies after the last page of the file was changed since, too
   is_changed : (k : ℕ) → 1 ≤ k → k < ends.last → is_stale (commits_of pages) has k ≡ true → has.commits ≤ (commits_of pages).last k
@@ -159,7 +155,7 @@ module _ (away : Map) (pages : MemPages) (backed : AreBacked away pages) (has : 
 
   in_list : (k : ℕ) → k < ends.last → (nat_le 1 k && is_stale (commits_of pages) has k) ≡ true → Contains numbers k
   in_list k less is =
-      let parts = both_true (nat_le 1 k) (is_stale (commits_of pages) has k) is in
+      let parts = and_parts (nat_le 1 k) (is_stale (commits_of pages) has k) is in
       let some : 1 ≤ k = let test : nat_le 1 k ≡ true = parts.0 in grind (arith, nat_tests) in
       changed k some (omega (arith, less, ends.within)) (is_changed k some less parts.1)
 

@@ -2,7 +2,7 @@
 use Rattle.std.proofs.Common.{◌≡◌, ◌≢◌, ◌⊎◌, inl, inr, ℕ, ◌+◌, ◌-◌, ◌<◌, ◌≤◌, ◌^◌, Bool, true, false, not, ◌||◌, cond, List, [], ◌∷◌, Option, Some, None, IsSome, option_map, refl, sym, ◌∙◌, ap, subst, arith}
 use Rattle.std.specs.Str.{bytes_eq}
 use Rattle.std.proofs.lemmas.Slice.Eq.{bytes_eq-Decides}
-use Rattle.std.proofs.lemmas.Bool.{cases_Bool, cond-true, cond-false, true≢false, or_cases}
+use Rattle.std.proofs.lemmas.Bool.{cases_Bool, cond-true, cond-false, true≢false, or_cases, not-false}
 use Rattle.vs_host.specs.File.{File, IsFileImage, Leaves}
 use Rattle.vs_host.specs.Disk.{Disk, Name, ChangesFile, IsImage, IsImageOf, IsFolder, names_of, names_at}
 use Rattle.vs_host.specs.declared.names.Names.{Names}
@@ -28,9 +28,6 @@ use Rattle.vs_pair.proofs.Gates.{body_stays, fits_body, has_at, zeros_not_open}
 use Rattle.vs_pair.proofs.Offers.{image_at, two_offer, other_twice, holds_stands}
 use Rattle.vs_pair.proofs.Reading.{stands_open, stands_generation}
 
-some_same : (a b : ℕ) → Some a ≡ Some b → a ≡ b
-some_same a b e = cc
-
 -- ---- the names
 
 pub side_is_swap : (names : Names) (side : Side) → is_swap names (name_of names side) ≡ true
@@ -44,13 +41,9 @@ side_is_swap names Swo = ap (λ (b : Bool). bytes_eq names.swp names.swo || b) (
 pub side_outside : (names : Names) (side : Side) → is_apart names (name_of names side) ≡ false
 side_outside names side = ap (λ (b : Bool). not b) (side_is_swap names side)
 
-not_false : (b : Bool) → not b ≡ false → b ≡ true
-not_false true is = refl
-not_false false is = absurd (true≢false is)
-
 -- a name that is not apart is that of one of the two files
 pub at_side : (names : Names) (name : Name) → is_apart names name ≡ false → (side : Side) × (name ≡ name_of names side)
-at_side names name out = elim (or_cases (bytes_eq names.swp name) (bytes_eq names.swo name) (not_false (is_swap names name) out)) [
+at_side names name out = elim (or_cases (bytes_eq names.swp name) (bytes_eq names.swo name) (not-false (is_swap names name) out)) [
   | inl same ↦ (Swp, sym ((bytes_eq-Decides names.swp name).0 same))
   | inr same ↦ (Swo, sym ((bytes_eq-Decides names.swo name).0 same))
 ]

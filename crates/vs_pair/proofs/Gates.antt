@@ -1,5 +1,6 @@
 -- The gate of a file: what stays while it is closed, while pages are written, and when it is opened.
 use Rattle.std.proofs.Common.{◌≡◌, ◌≢◌, ◌⊎◌, inl, inr, ℕ, ◌+◌, ◌-◌, ◌*◌, ◌≤◌, List, length, false, take, drop, Some, refl, sym, ◌∙◌, ap, subst, arith, IsTrue, length-take, length-drop}
+use Rattle.std.proofs.lemmas.Option.{same_Some}
 use Rattle.std.proofs.lemmas.List.{drop-drop}
 use Rattle.vs_host.specs.File.{File, IsFileImage, Leaves, synced_file}
 use Rattle.vs_host.specs.Disk.{Disk, Name, ChangesFile, names_of}
@@ -46,12 +47,9 @@ pub close_acts : (tells : Tells) (name : Name) (gate : Gate) → gate ≢ Closed
 close_acts tells name gate not old new acts =
     acts_as tells (ChangesFile name ChangesMark) (ChangesFile name (CloseStep gate)) old new (λ told d changes. file_as name ChangesMark (CloseStep gate) (close_mark gate not) old.folder d changes) acts
 
-some_same : (a b : ℕ) → Some a ≡ Some b → a ≡ b
-some_same a b e = cc
-
 -- what the file of this name has, wherever the name leads
 pub has_at : (name : Name) (P : File → Type 0) (disk : Disk) → FileHas disk name P → (number : ℕ) → names_of disk name ≡ Some number → P (disk.files number)
-has_at name P disk has number leads = subst (λ (n : ℕ). P (disk.files n)) (some_same has.number number (sym has.leads ∙ leads)) has.has
+has_at name P disk has number leads = subst (λ (n : ℕ). P (disk.files n)) (same_Some has.number number (sym has.leads ∙ leads)) has.has
 
 pub mark_closes : (name : Name) (gate : Gate) (old new : Disk) → ChangesFile name ChangesMark old new → FileHas new name (λ file. Leaves file (HasMark closed_mark)) → ChangesFile name (Closes gate) old new
 mark_closes name gate old new changes has = record {

@@ -2,7 +2,7 @@
 use Rattle.std.proofs.Common.{◌≡◌, ◌≢◌, ◌⊎◌, inl, inr, ℕ, zero, suc, ◌≤◌, Bool, true, false, not, ◌||◌, cond, List, [], length, take, Some, None, IsTrue, refl, sym, ◌∙◌, ap, subst, arith}
 use Rattle.std.specs.Str.{bytes_eq}
 use Rattle.std.proofs.lemmas.Slice.Eq.{bytes_eq-Decides}
-use Rattle.std.proofs.lemmas.Bool.{cond-true, cond-false, true≢false, or_parts}
+use Rattle.std.proofs.lemmas.Bool.{cond-true, cond-false, true≢false, or_parts, not-true, not-false, or_right}
 use Rattle.vs_host.specs.File.{File, IsFileImage, Leaves, Writes, put, synced_file}
 use Rattle.vs_host.specs.Disk.{Disk, Mode, Name, Directory, Change, Renames, Removes, Creates, ChangesFile, ChangesNames, CreatesFile, SyncsNames, changed_names, names_of, names_at, content_in}
 use Rattle.vs_disk.specs.Images.{FileHas}
@@ -31,18 +31,6 @@ not_itself name = ap (λ (b : Bool). not b) (itself name)
 pub not_other : (name other : Name) → name ≢ other → is_not name other ≡ true
 not_other name other apart = ap (λ (b : Bool). not b) (differ name other apart)
 
-not_true : (b : Bool) → not b ≡ true → b ≡ false
-not_true true is = absurd (true≢false (sym is))
-not_true false is = refl
-
-not_false : (b : Bool) → not b ≡ false → b ≡ true
-not_false true is = refl
-not_false false is = absurd (true≢false is)
-
-or_right : (a b : Bool) → b ≡ true → (a || b) ≡ true
-or_right true b is = refl
-or_right false b is = is
-
 first_out : (one two : Name) → is_neither one two one ≡ false
 first_out one two = ap (λ (b : Bool). not (b || bytes_eq two one)) (itself one)
 
@@ -53,7 +41,7 @@ pub neither_apart : (one two name : Name) → one ≢ name → two ≢ name → 
 neither_apart one two name a b = (λ i. not (differ one name a i || differ two name b i))
 
 neither_not : (one two name : Name) → is_neither one two name ≡ true → is_not one name ≡ true
-neither_not one two name is = ap (λ (b : Bool). not b) (or_parts (bytes_eq one name) (bytes_eq two name) (not_true (bytes_eq one name || bytes_eq two name) is)).0
+neither_not one two name is = ap (λ (b : Bool). not b) (or_parts (bytes_eq one name) (bytes_eq two name) (not-true (bytes_eq one name || bytes_eq two name) is)).0
 
 -- ---- what stays of other names
 
@@ -159,7 +147,7 @@ making_begins temporary old new same free = record {
   same = same;
   apart = record {
     alone = λ lost name other number inside outside leads there.
-        let is : temporary ≡ other = (bytes_eq-Decides temporary other).0 (not_false (bytes_eq temporary other) outside) in
+        let is : temporary ≡ other = (bytes_eq-Decides temporary other).0 (not-false (bytes_eq temporary other) outside) in
         let clash : None ≡ Some number = sym free ∙ ap (λ (n : Name). names_of new n) is ∙ there in
         cc clash;
   };

@@ -1,7 +1,7 @@
 -- Both files as they are made: in each state of the names that a stop may leave, each of them is absent or whole.
 use Rattle.std.proofs.Common.{◌≡◌, ◌≢◌, ◌⊎◌, inl, inr, ℕ, ◌-◌, ◌<◌, ◌≤◌, Bool, true, false, not, ◌||◌, List, [], ◌∷◌, Option, Some, None, IsSome, IsTrue, refl, sym, ◌∙◌, ap, subst, arith}
 use Rattle.std.specs.Str.{bytes_eq}
-use Rattle.std.proofs.lemmas.Bool.{true≢false, or_parts}
+use Rattle.std.proofs.lemmas.Bool.{true≢false, or_parts, not-true}
 use Rattle.vs_host.specs.File.{File, Leaves}
 use Rattle.vs_host.specs.Disk.{Disk, Name, SyncsNames, IsImage, IsImageOf, IsFolder, names_of}
 use Rattle.vs_host.specs.Names.{AreNames}
@@ -51,14 +51,10 @@ module _ (names : Names) (are : AreNames names) where
   swp_new_apart : is_neither names.swo_new names.swo names.swp_new ≡ true
   swp_new_apart = neither_apart names.swo_new names.swo names.swp_new (λ is. (names_apart names are).1.1.1.1.1.0.0 (sym is)) (names_apart names are).1.1.0.1.1.0
 
-not_true : (b : Bool) → not b ≡ true → b ≡ false
-not_true true is = absurd (true≢false (sym is))
-not_true false is = refl
-
 -- what is foreign is none of the names of either file
 foreign_parts : (names : Names) (name : Name) → is_foreign names name ≡ true → ((bytes_eq names.swp name ≡ false) × (bytes_eq names.swo name ≡ false)) × ((bytes_eq names.swp_new name ≡ false) × (bytes_eq names.swo_new name ≡ false))
 foreign_parts names name is =
-    let parts = or_parts (is_swap names name) (bytes_eq names.swp_new name || bytes_eq names.swo_new name) (not_true (is_pair_name names name) is) in
+    let parts = or_parts (is_swap names name) (bytes_eq names.swp_new name || bytes_eq names.swo_new name) (not-true (is_pair_name names name) is) in
     (or_parts (bytes_eq names.swp name) (bytes_eq names.swo name) parts.0, or_parts (bytes_eq names.swp_new name) (bytes_eq names.swo_new name) parts.1)
 
 foreign_first : (names : Names) (name : Name) → is_foreign names name ≡ true → is_neither names.swp_new names.swp name ≡ true

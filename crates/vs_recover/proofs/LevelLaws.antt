@@ -1,7 +1,8 @@
 -- From one level of a tree to the next, both ways.
 use Rattle.std.proofs.Common.{◌≡◌, ℕ, zero, suc, ◌+◌, ◌≤◌, ◌⊎◌, List, [], ◌∷◌, ◌++◌, length, map, Option, Some, None, sym, refl, ap, subst, ◌∙◌, inl, inr, arith, length-append, true, false, Bool}
+use Rattle.std.proofs.lemmas.List.Concat.{flat_map-append}
 use Rattle.std.specs.List.{flat_map, AllByRecursion}
-use Rattle.std.proofs.lemmas.Bool.{cases_eq}
+use Rattle.std.proofs.lemmas.Bool.{cases_eq, cases_Bool}
 use Rattle.std.proofs.lemmas.Bool.Decides.{nat_tests}
 use Rattle.std.proofs.lemmas.Grind.{common_steps}
 use Rattle.vs_pages.specs.Maps.{Map, total, span, pages_at}
@@ -33,13 +34,9 @@ no_below (u ∷ us) k = omega (arith, no_below us k)
 
 -- ---- lines
 
-pub flat-append : {X Y : Type 0} (f : X → List Y) (xs ys : List X) → flat_map f (xs ++ ys) ≡ flat_map f xs ++ flat_map f ys
-flat-append f [] ys = refl
-flat-append f (x ∷ xs) ys = grind (arith, common_steps, flat-append f xs ys)
-
 pub lines_parts : (d : ℕ) (us : List (Tree (suc d))) → flat_map (λ u. lines_of (suc d) u) us ≡ flat_map (λ v. lines_of d v) (flat_map (λ u. u.1) us)
 lines_parts d [] = refl
-lines_parts d (u ∷ us) = ap (λ xs. flat_map (λ v. lines_of d v) u.1 ++ xs) (lines_parts d us) ∙ sym (flat-append (λ v. lines_of d v) u.1 (flat_map (λ u. u.1) us))
+lines_parts d (u ∷ us) = ap (λ xs. flat_map (λ v. lines_of d v) u.1 ++ xs) (lines_parts d us) ∙ sym (flat_map-append (λ v. lines_of d v) u.1 (flat_map (λ u. u.1) us))
 
 pub lines_counted : (d : ℕ) (vs : List (Tree d)) → lines_below (map (λ v. entry_of d v) vs) ≡ length (flat_map (λ v. lines_of d v) vs)
 lines_counted d [] = refl
@@ -49,10 +46,6 @@ lines_counted d (v ∷ vs) = omega (arith, lines_counted d vs, length-append (li
 
 pub points_fit : (e : Entry) (es : List Entry) → e.pages ≡ 1 → lines_below es ≡ e.lines → are_wide es ≡ true → fitting_points e (Some es) ≡ Some es
 points_fit e es a b w = grind (arith, nat_tests)
-
-wide_cases : (b : Bool) → (b ≡ true) ⊎ (b ≡ false)
-wide_cases true = inl refl
-wide_cases false = inr refl
 
 width-least : (c : Format) (m : Map) (d : ℕ) (t : Tree d) → IsTree c d m t → 1 ≤ width_of d t
 width-least c m zero t is = is.0
@@ -66,7 +59,7 @@ pub points_fitted : (e : Entry) (o : Option (List Entry)) (es : List Entry) → 
 points_fitted e None es h = absurd (cc)
 points_fitted e (Some found) es h = elim (cases_eq e.pages 1) [
   | inl a ↦ elim (cases_eq (lines_below found) e.lines) [
-    | inl b ↦ elim (wide_cases (are_wide found)) [
+    | inl b ↦ elim (cases_Bool (are_wide found)) [
       | inl w ↦ let same : Some found ≡ Some es = sym (points_fit e found a b w) ∙ h in let equal : es ≡ found = cc in (same, a, ap (λ zs. lines_below zs) equal ∙ b, ap (λ zs. are_wide zs) equal ∙ w)
       | inr n ↦ absurd (grind (arith, nat_tests))
     ]

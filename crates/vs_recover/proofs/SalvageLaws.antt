@@ -1,7 +1,7 @@
 -- What a walk over all entries of block 1 shows is what is salvaged, up to the limits of a text.
 use Rattle.std.proofs.Common.{◌≡◌, ◌≤◌, ◌<◌, ◌+◌, ◌*◌, ◌/◌, ℕ, List, [], ◌∷◌, ◌++◌, length, take, drop, Bool, true, false, Option, Some, None, Result, Ok, Err, is_ok, refl, sym, ap, ◌∙◌, subst, arith, inl, inr}
 use Rattle.std.specs.Prelude.{◌&&◌, nat_le}
-use Rattle.std.proofs.lemmas.Bool.{cases_lt}
+use Rattle.std.proofs.lemmas.Bool.{cases_lt, and_parts}
 use Rattle.std.proofs.lemmas.Bool.Decides.{nat_tests}
 use Rattle.std.proofs.lemmas.List.{append-nil}
 use Rattle.std.proofs.lemmas.Nat.{mul-le}
@@ -39,11 +39,6 @@ has_view : (r : Result PtrView PtrErr) → is_ok r ≡ true → (view : PtrView)
 has_view (Ok view) is = (view, refl)
 has_view (Err why) is = absurd (cc)
 
-both_hold : (a b : Bool) → (a && b) ≡ true → (a ≡ true) × (b ≡ true)
-both_hold true true is = (refl, refl)
-both_hold true false is = absurd (cc)
-both_hold false b is = absurd (cc)
-
 within : (a b : ℕ) → nat_le a b ≡ true → a ≤ b
 within a b is = grind (arith, nat_tests, is)
 
@@ -64,7 +59,7 @@ pub salvages_all : (file : List ℕ) (original : Option (List ℕ)) (zero : Zero
     → root_reads file size ≡ true → IsFoundOf (damaged file size format original) (entries_of (take size (drop size file))) shown → SalvagesOf (Some file) original shown.bytes.items shown.markers
 salvages_all file original zero size format shown reads sized formatted root_is found =
     let d : Damaged = damaged file size format original in
-    let tests = both_hold (nat_le (2 * size) (length file)) (is_ok (view_in (take size (drop size file)))) root_is in
+    let tests = and_parts (nat_le (2 * size) (length file)) (is_ok (view_in (take size (drop size file)))) root_is in
     let view = has_view (view_in (take size (drop size file))) tests.1 in
     let block = root_block file size format original in
     let whole = shown_whole format shown found.0 found.2 in (

@@ -1,12 +1,12 @@
 -- A walk keeps what is left: whatever the entries that are left give comes after what was shown.
 use Rattle.std.proofs.Common.{◌≡◌, ◌≤◌, ◌+◌, ◌-◌, ◌*◌, ◌/◌, ℕ, zero, suc, List, [], ◌∷◌, ◌++◌, length, take, drop, reverse, Bool, Option, Ok, refl, sym, ap, ◌∙◌, subst, arith, append_assoc, length-drop, length-take, inl, inr}
+use Rattle.std.proofs.lemmas.Result.{on_ok_weaker}
 use Rattle.std.specs.Prelude.{ℤ, pos, negsuc, OnOk, Result}
 use Rattle.std.proofs.lemmas.Bool.{cases_lt}
 use Rattle.std.proofs.lemmas.List.{append-nil}
 use Rattle.std.proofs.lemmas.Nat.{mul-le}
 use Rattle.std.proofs.Math.Nat.{div-mul-le_self}
 use Rattle.std.proofs.Math.Seq.{take-append_seam}
-use Rattle.vs_damaged.proofs.FindLaws.{on_ok}
 use Rattle.vs_host.specs.World.{Tells, Scene}
 use Rattle.vs_text.specs.declared.format.Format.{Format}
 use Rattle.vs_pages.specs.Maps.{span}
@@ -33,7 +33,7 @@ use Rattle.vs_recover.proofs.ReadingLaws.{file_has, still}
 -- ---- a block
 
 pub few_pointers : {T E : Type 0} (r : Result T E) (block : List ℕ) (view : PtrView) (old new : ℕ) → view_in block ≡ Ok view → OnOk r (new ≡ old + view.count) → OnOk r (32 * new ≤ 32 * old + length block)
-few_pointers r block view old new reads holds = on_ok r (λ is. omega (arith, is, (header_from_view block view reads).room)) holds
+few_pointers r block view old new reads holds = on_ok_weaker r (λ is. omega (arith, is, (header_from_view block view reads).room)) holds
 
 -- a block was read
 pub block_loaded : (file read before shown : List ℕ) (at len room : ℕ) → shown ≡ take len (read ++ drop (length read) before) → room ≡ len → read ≡ take room (drop at file) → at + room ≤ length file → shown ≡ take room (drop at file)

@@ -1,9 +1,10 @@
 -- The names under which files are made that are renamed then: what a command leaves of them.
 use Rattle.std.proofs.Common.{◌≡◌, ◌≢◌, ◌⊎◌, inl, inr, ℕ, Bool, true, false, ◌&&◌, ◌||◌, not, codes, length, List, [], ◌∷◌, ◌++◌, Option, Some, None, IsSome, Result, refl, sym, ◌∙◌, ap, subst, append_assoc, arith}
+use Rattle.std.proofs.lemmas.Option.{same_Some}
 use Rattle.std.specs.List.{ends_with, list_all}
 use Rattle.std.specs.Prelude.{nat_eq, nat_le}
 use Rattle.std.specs.Str.{bytes_eq}
-use Rattle.std.proofs.lemmas.Bool.{true≢false, cases_Bool}
+use Rattle.std.proofs.lemmas.Bool.{true≢false, cases_Bool, or_right}
 use Rattle.std.proofs.lemmas.Bool.Decides.{Decides-eqb}
 use Rattle.std.proofs.lemmas.List.{append_cancel_right, same_from_push}
 use Rattle.std.proofs.lemmas.Slice.Eq.{bytes_eq-Decides, ends_is}
@@ -92,13 +93,6 @@ reserved_last true true r is all = true≢false (sym all ∙ ap not is)
 reserved_last true false r is all = true≢false (sym all)
 reserved_last false b r is all = true≢false (sym all)
 
-or_true : (a r : Bool) → r ≡ true → (a || r) ≡ true
-or_true true r is = refl
-or_true false r is = is
-
-some_is : (a b : Name) → Some a ≡ Some b → a ≡ b
-some_is a b e = cc
-
 temporary_end : (name : Name) → temporary name ≡ (name ++ codes ".vsne") ++ 119 ∷ []
 temporary_end name = sym (append_assoc name (codes ".vsne") (119 ∷ []))
 
@@ -121,7 +115,7 @@ module _ (names : Names) (are : AreNames names) where
   file_unmade made same =
       let last : ends_with nat_eq names.file (codes ".vsnew") ≡ true = (ends_is Decides-eqb names.file (codes ".vsnew") _ refl).1 made (sym same) in
       reserved_last (nat_le 1 (length names.file) && nat_le (length names.file) 200) (list_all is_name_byte names.file) (is_reserved names.file)
-      (or_true (bytes_eq names.file (codes ".") || bytes_eq names.file (codes "..")) (ends_with nat_eq names.file (codes ".vsnew")) last) are.allowed
+      (or_right (bytes_eq names.file (codes ".") || bytes_eq names.file (codes "..")) (ends_with nat_eq names.file (codes ".vsnew")) last) are.allowed
 
   backup_unmade : (made backup : Name) → IsBackupName names.file backup → temporary made ≢ backup
   backup_unmade made backup named same =
@@ -298,7 +292,7 @@ module _ (names : Names) (are : AreNames names) where
           subst (λ (n : Name). IsGone n new.folder) (sym is) (copied_aside backup was_bytes copied (file.backed was_bytes there backup chosen) (subst (λ (n : Name). IsGone n old.folder) is was))
       | inr other ↦ unworked (unworked_copy was_bytes there (λ other_backup other_chosen _ same.
           let one : Some other_backup ≡ Some backup = sym other_chosen ∙ chosen in
-          true≢false (sym ((bytes_eq-Decides (temporary made) (temporary backup)).1 (same ∙ ap temporary (some_is other_backup backup one))) ∙ other)))
+          true≢false (sym ((bytes_eq-Decides (temporary made) (temporary backup)).1 (same ∙ ap temporary (same_Some other_backup backup one))) ∙ other)))
     ]
 
     of_there : (was_bytes : List ℕ) → content_of old names.file ≡ Some was_bytes → (chosen : Option Name) → backup_of options names.file old.folder ≡ chosen → Gone

@@ -38,15 +38,6 @@ goes_all A P Q old new base all = record { added = base.added; is = base.is; eac
 
 -- ---- Bools
 
-pub both_true : (a b : Bool) → (a && b) ≡ true → (a ≡ true) × (b ≡ true)
-both_true true true is = (refl, refl)
-both_true true false is = absurd (true≢false (sym is))
-both_true false b is = absurd (true≢false (sym is))
-
-pub not_true : (a : Bool) → not a ≡ true → a ≡ false
-not_true true is = absurd (true≢false (sym is))
-not_true false is = refl
-
 pub none_is : (o : Option Name) → is_none o ≡ true → o ≡ None
 none_is None is = refl
 none_is (Some name) is = absurd (true≢false (sym is))

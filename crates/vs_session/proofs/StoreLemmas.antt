@@ -28,10 +28,6 @@ use Rattle.vs_paged.specs.Pages.{IsBounded, IsFilledIn, IsPaged}
 
 -- ---- answers
 
-pub if_ok_as : {T E : Type 0} (result : Result T E) (P Q : T → Type 0) → ((x : T) → P x → Q x) → IfOk result P → IfOk result Q
-if_ok_as (Ok x) P Q leads is = leads x is
-if_ok_as (Err e) P Q leads is = tt
-
 -- ---- what the store asks
 
 pub present_fits : (tells : Bool) (shown : PageState) (tree : LineTree) → IsBounded tree → (IsTrue tells → (text : Text) × IsPaged shown tree text) → Fits tells shown.present tree.present

@@ -1,7 +1,7 @@
 -- What a write did to the file and its backup: at each moment after the sync of its command, and in the end.
 use Rattle.std.proofs.Common.{◌≡◌, ◌⊎◌, inl, inr, ℕ, ◌≤◌, Bool, true, false, ◌&&◌, ◌||◌, not, length, List, [], Option, Some, None, Result, Ok, Err, IfOk, OnOk, OnErr, is_ok, refl, sym, ◌∙◌, ap, subst, arith}
 use Rattle.std.specs.Prelude.{is_some, is_none, IsSome}
-use Rattle.std.proofs.lemmas.Bool.{true≢false, cases_Bool}
+use Rattle.std.proofs.lemmas.Bool.{true≢false, cases_Bool, and_parts, not-true}
 use Rattle.vs_faults.specs.Faults.{HasRisen}
 use Rattle.vs_host.specs.Disk.{Disk, Name, IsFolder, names_of, names_at, content_in}
 use Rattle.vs_host.specs.Names.{AreNames, temporary}
@@ -40,7 +40,7 @@ use Rattle.vs_desk.proofs.Left.{goes_both}
 use Rattle.vs_desk.proofs.Stillness.{still_apart, still_settled, still_lasts}
 use Rattle.vs_session.specs.Session.{lacks_name}
 use Rattle.vs_session.proofs.Steps.{apart_foreign, risen_since, when_err, when_ok}
-use Rattle.vs_session.proofs.FileWrites.{both_true, none_is, not_true, goes_all, backup_named, file_same, backup_same, works_same, narrowed_takes, narrowed_untouched, place_same, takes_backup, takes_old, untouched_old, untouched_then}
+use Rattle.vs_session.proofs.FileWrites.{none_is, goes_all, backup_named, file_same, backup_same, works_same, narrowed_takes, narrowed_untouched, place_same, takes_backup, takes_old, untouched_old, untouched_then}
 
 abbrev ok_size : ℕ → Result ℕ WriteErr
 ok_size size = Ok size
@@ -466,10 +466,10 @@ module _ (names : Names) (are : AreNames names) (options : WriteOptions) (text :
       -- where no name is free, nothing is done
       pub lacks_looks : lacks_name options names.file old ≡ true → IsIdle mid new result
       lacks_looks lacks =
-          let parts = both_true _ _ lacks in
-          let front = both_true _ _ parts.0 in
-          let switches = both_true _ _ front.0 in
-          let off : options.backup ≡ false = not_true options.backup switches.0 in
+          let parts = and_parts _ _ lacks in
+          let front = and_parts _ _ parts.0 in
+          let switches = and_parts _ _ front.0 in
+          let off : options.backup ≡ false = not-true options.backup switches.0 in
           let none : backup_of options names.file old ≡ None = none_is (backup_of options names.file old) parts.1 in
           elim (file.all_taken (ap (λ (o : Option (List ℕ)). is_some o) there_mid ∙ front.1) (λ i. off i || switches.1 i) (backup_same names are old mid.folder same options ∙ none)) [
             | inl unseen ↦ record {

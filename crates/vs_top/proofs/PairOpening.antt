@@ -1,5 +1,6 @@
 -- Both files of a run of two sessions are opened, or not both; and both opening replies are written, or one of them in part.
 use Rattle.std.proofs.Common.{◌≡◌, ◌⊎◌, inl, inr, ℕ, ◌<◌, Bool, true, false, not, ◌&&◌, List, [], ◌∷◌, ◌++◌, length, refl, sym, ap, subst, ◌∙◌, append-nil, arith}
+use Rattle.std.proofs.lemmas.Bool.{and_from}
 use Rattle.std.proofs.lemmas.List.{length-append}
 use Rattle.vs_faults.specs.Faults.{HasRisen}
 use Rattle.vs_host.specs.Disk.{Disk, IsFolder, Name}
@@ -62,24 +63,20 @@ both_settled one two disk none is_folder = record {
 
 -- ---- the names
 
-and_both : (a b : Bool) → a ≡ true → b ≡ true → (a && b) ≡ true
-and_both true b one two = two
-and_both false b one two = absurd (cc)
-
 -- a name that is of neither family is of neither pair
 neither_pair : (one two : Party) → HasFamily one → HasFamily two → (inside : Name → Bool) → AreIn (outside one.family) inside → AreIn (outside two.family) inside
     → AreIn (λ name. is_foreign one.names name && is_foreign two.names name) inside
 neither_pair one two has_one has_two inside out_one out_two = λ name is.
-    and_both (is_foreign one.names name) (is_foreign two.names name) (has_one.pair name (out_one name is)) (has_two.pair name (out_two name is))
+    and_from (is_foreign one.names name) (is_foreign two.names name) (has_one.pair name (out_one name is)) (has_two.pair name (out_two name is))
 
 -- the other names of a family are of neither pair
 others_neither : (party other : Party) → AreBeside party other → AreIn (λ name. is_foreign party.names name && is_foreign other.names name) (others_of party)
 others_neither party other are = λ name is.
-    and_both (is_foreign party.names name) (is_foreign other.names name) (others_foreign party name is) (are.second.pair name (ap not (are.apart name (others_in_family party name is))))
+    and_from (is_foreign party.names name) (is_foreign other.names name) (others_foreign party name is) (are.second.pair name (ap not (are.apart name (others_in_family party name is))))
 
 others_neither_two : (party other : Party) → AreBeside party other → AreIn (λ name. is_foreign party.names name && is_foreign other.names name) (others_of other)
 others_neither_two party other are = λ name is.
-    and_both (is_foreign party.names name) (is_foreign other.names name)
+    and_from (is_foreign party.names name) (is_foreign other.names name)
     (are.first.pair name (ap not (share_none party other are.apart name (others_in_family other name is)))) (others_foreign other name is)
 
 module _ (tells : Tells) (told : TellsRun tells) (one two : List ℕ) (old new : Scene) (pending : old.folder.pending ≡ []) (beside : AreBeside (party_for which.One (files_in old one two)) (party_for which.Two (files_in old one two)))

@@ -1,5 +1,6 @@
 -- Two sessions take the lines of one script: what was read is the lines of their transcript.
 use Rattle.std.proofs.Common.{◌≡◌, inl, inr, ℕ, ◌+◌, ◌-◌, ◌<◌, ◌≤◌, Bool, true, false, ◌&&◌, List, [], ◌∷◌, ◌++◌, length, take, Option, Some, None, refl, sym, ap, ◌∙◌, arith}
+use Rattle.std.proofs.lemmas.Bool.{and_from}
 use Rattle.std.specs.Prelude.{is_none}
 use Rattle.std.proofs.lemmas.Bool.Decides.{leb_tells}
 use Rattle.std.proofs.Math.Seq.{take-append-add}
@@ -98,10 +99,6 @@ over_none None feed place stands over = refl
 over_none (Some s) feed Over stands over = absurd stands
 over_none (Some s) feed (Reads reading) stands over = absurd (cc)
 
-and_true : (a b : Bool) → a ≡ true → b ≡ true → (a && b) ≡ true
-and_true true b one two = two
-and_true false b one two = absurd (cc)
-
 and_left : (a b : Bool) → (a && b) ≡ true → a ≡ true
 and_left true b is = refl
 and_left false b is = absurd (cc)
@@ -119,7 +116,7 @@ over_by pair transcript placed is = (
 
 pub not_over_by : (pair : Sessions) (transcript : Transcript) → ArePlaced pair transcript → (is_none pair.multi.one && is_none pair.multi.two) ≡ false → ¬ AreOver transcript
 not_over_by pair transcript placed is over =
-    let both = and_true (is_none pair.multi.one) (is_none pair.multi.two)
+    let both = and_from (is_none pair.multi.one) (is_none pair.multi.two)
     (over_none pair.multi.one pair.one (feed_place which.One transcript) (placed which.One) over.0)
     (over_none pair.multi.two pair.two (feed_place which.Two transcript) (placed which.Two) over.1) in
     Rattle.std.proofs.lemmas.Bool.true≢false (sym both ∙ is)

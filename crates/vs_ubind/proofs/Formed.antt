@@ -1,5 +1,6 @@
 -- The changes of a file that is written for a sound tree make a tree.
 use Rattle.std.proofs.Common.{◌≡◌, ◌≢◌, ◌⊎◌, inl, inr, ℕ, zero, suc, ◌+◌, ◌-◌, ◌<◌, ◌≤◌, if◌then◌else◌, List, [], ◌∷◌, length, get_or, map, Option, Some, None, option_map, refl, sym, ap, subst, ◌∙◌, arith}
+use Rattle.std.proofs.lemmas.Option.{same_Some}
 use Rattle.std.proofs.lemmas.Bool.Decides.{eqb_tells, leb_tells}
 use Rattle.std.proofs.lemmas.Grind.{get_or_tail}
 use Rattle.std.proofs.lemmas.List.{get_or_past}
@@ -17,16 +18,10 @@ use Rattle.vs_ubind.specs.Unbound.{after_in, before_in, chain_of, filed_change}
 use Rattle.vs_ubind.proofs.Places.{after_at, before_at}
 use Rattle.vs_ubind.proofs.Chains.{IsAt, IsChild, chain_apart, chain_child, chain_place, child_index, none}
 
-pub some_same : (a b : Node) → Some a ≡ Some b → a ≡ b
-some_same a b e = cc
-
-pub some_number : (a b : ℕ) → Some a ≡ Some b → a ≡ b
-some_number a b e = cc
-
 -- the change of a child
 at_child : (found : Option Node) (parent : ℕ) → option_map (λ (n : Node). n.parent) found ≡ Some parent → (node : Node) × (found ≡ Some node) × (node.parent ≡ parent)
 at_child None parent is = absurd (cc)
-at_child (Some node) parent is = (node, refl, some_number node.parent parent is)
+at_child (Some node) parent is = (node, refl, same_Some node.parent parent is)
 
 -- the numbers of a file's changes
 pub number_filed : (parts : Parts) (nodes : List Node) (k d : ℕ) → k < length nodes → get_or (numbers (map (filed_change parts) nodes)) k d ≡ (get_or nodes k none).number
@@ -43,7 +38,7 @@ link_is : (parts : Parts) (f : file.Change → ℕ) (nodes : List Node) (n : ℕ
 link_is parts f [] n node is = absurd (cc)
 link_is parts f (m ∷ nodes) n node is = elim (eqb_tells m.number n) [
   | inl same ↦
-      let here : m ≡ node = some_same m node (sym (ap (λ b. if b then Some m else node_at nodes n) same.0) ∙ is) in
+      let here : m ≡ node = same_Some m node (sym (ap (λ b. if b then Some m else node_at nodes n) same.0) ∙ is) in
       ap (λ b. if b then f (filed_change parts m) else link f (map (filed_change parts) nodes) n) same.0 ∙ ap (λ x. f (filed_change parts x)) here
   | inr other ↦
       ap (λ b. if b then f (filed_change parts m) else link f (map (filed_change parts) nodes) n) other.0

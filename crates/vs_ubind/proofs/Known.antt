@@ -1,5 +1,7 @@
 -- The data of a file that is written for a sound tree keeps the rules of the format.
 use Rattle.std.proofs.Common.{◌≡◌, ◌≢◌, ◌⊎◌, inl, inr, ℕ, zero, suc, ◌+◌, ◌<◌, ◌≤◌, ◌==◌, ◌||◌, if◌then◌else◌, Bool, true, false, List, [], ◌∷◌, length, get_or, map, Option, Some, None, option_map, unwrap_or, refl, sym, ap, subst, ◌∙◌, arith}
+use Rattle.std.proofs.lemmas.Bool.{or_right}
+use Rattle.std.proofs.lemmas.Option.{same_Some}
 use Rattle.std.specs.Option.{is_some}
 use Rattle.std.specs.List.{AllByRecursion}
 use Rattle.std.proofs.lemmas.Bool.Decides.{eqb_tells, leb_tells}
@@ -22,11 +24,7 @@ use Rattle.vs_ufile.specs.Tree.{numbers}
 use Rattle.vs_ubind.specs.Unbound.{after_in, before_in, chain_of, filed, filed_change, newest_of, used_within, with_next}
 use Rattle.vs_ubind.proofs.Places.{after_at, before_at}
 use Rattle.vs_ubind.proofs.Chains.{IsChild, chain_apart, chain_child, chain_place, none}
-use Rattle.vs_ubind.proofs.Formed.{child_change, count_filed, makes_tree, not_zero, number_filed, some_number}
-
-or_right : (a b : Bool) → b ≡ true → (a || b) ≡ true
-or_right true b is = refl
-or_right false b is = is
+use Rattle.vs_ubind.proofs.Formed.{child_change, count_filed, makes_tree, not_zero, number_filed}
 
 still_some : (found : Option ℕ) → is_some found ≡ true → is_some (option_map suc found) ≡ true
 still_some None is = is
@@ -74,7 +72,7 @@ module _ (parts : Parts) (sound : IsSound parts) where
   parent_on : (p n : ℕ) → IsChild parts p n → (way : List ℕ) → IsWay (λ k. parent_at parts.nodes k) way → start way ≡ n → Known p
   parent_on p n child [] is begins = absurd (not_zero parts sound p n child (sym begins))
   parent_on p n child (m ∷ way) is begins =
-      let same : start way ≡ p = some_number (start way) p (sym is.0 ∙ (ap (λ k. parent_at parts.nodes k) begins ∙ child)) in
+      let same : start way ≡ p = same_Some (start way) p (sym is.0 ∙ (ap (λ k. parent_at parts.nodes k) begins ∙ child)) in
       subst Known same (start_known way is.1)
 
   -- a change of the tree

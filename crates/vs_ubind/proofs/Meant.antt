@@ -1,5 +1,6 @@
 -- The data of a file that is written for a sound tree stands for that tree.
 use Rattle.std.proofs.Common.{◌≡◌, inl, ℕ, zero, suc, ◌<◌, ◌==◌, if◌then◌else◌, Bool, true, false, List, [], ◌∷◌, length, get_or, map, Some, option_map, unwrap_or, max, refl, sym, ap, subst, ◌∙◌, arith}
+use Rattle.std.proofs.lemmas.Option.{same_Some}
 use Rattle.std.specs.Prelude.{Contains}
 use Rattle.std.proofs.lemmas.List.{get_or-map, length-map}
 use Rattle.vs_entries.specs.declared.entry.Entry.{Entry}
@@ -20,7 +21,7 @@ use Rattle.vs_ubind.specs.Bound.{history_next, IsDataOf}
 use Rattle.vs_ubind.specs.Meaning.{entries_in, flagged, last_flag, taken, IsKeptSave, Means, StandsFor}
 use Rattle.vs_ubind.specs.Unbound.{filed, filed_change, filed_entry, flag_of, used_within, with_next}
 use Rattle.vs_ubind.proofs.Chains.{child_index, none}
-use Rattle.vs_ubind.proofs.Formed.{change_child, first_is, next_is, one_first, parent_is, some_child, some_same}
+use Rattle.vs_ubind.proofs.Formed.{change_child, first_is, next_is, one_first, parent_is, some_child}
 use Rattle.vs_ubind.proofs.Known.{child_here, last_child_is, sound_next}
 
 -- ---- entries
@@ -59,7 +60,7 @@ module _ (parts : Parts) (sound : IsSound parts) where
   node_place : (n : ℕ) (node : Node) → node_at parts.nodes n ≡ Some node → (k : ℕ) × (k < length parts.nodes) × (get_or parts.nodes k none ≡ node)
   node_place n node is =
       let at = child_index parts.nodes n node.parent (ap (λ o. option_map (λ (m : Node). m.parent) o) is) in
-      (at.0, at.1, some_same (get_or parts.nodes at.0 none) node (sym (index_found parts.nodes at.0 none sound.numbers.rising at.1) ∙ (ap (λ k. node_at parts.nodes k) at.2 ∙ is)))
+      (at.0, at.1, same_Some (get_or parts.nodes at.0 none) node (sym (index_found parts.nodes at.0 none sound.numbers.rising at.1) ∙ (ap (λ k. node_at parts.nodes k) at.2 ∙ is)))
 
   save_here : (k : ℕ) → k < length parts.nodes → save_at parts.nodes (get_or parts.nodes k none).number ≡ (get_or parts.nodes k none).save
   save_here k within = ap (λ o. unwrap_or (option_map (λ (m : Node). m.save) o) 0) (index_found parts.nodes k none sound.numbers.rising within)

@@ -27,9 +27,6 @@ use Rattle.vs_ubind.specs.Meaning.{Means, StandsFor}
 use Rattle.vs_ubind.proofs.Chains.{none}
 use Rattle.vs_ubind.proofs.Takes.{change_number}
 
-some_number : (a b : ℕ) → Some a ≡ Some b → a ≡ b
-some_number a b e = cc
-
 -- ---- the places of numbers
 index_or : (o : Option ℕ) → (o ≡ None) ⊎ ((i : ℕ) × (o ≡ Some i))
 index_or None = inl refl

@@ -1,10 +1,11 @@
 -- Parts of the tree that the data of an undo file stands for, one by one.
 use Rattle.std.proofs.Common.{◌≡◌, ◌≢◌, ◌⊎◌, inl, inr, ℕ, zero, suc, ◌+◌, ◌<◌, ◌≤◌, ◌==◌, ◌&&◌, cond, eqb, Bool, true, false, List, [], ◌∷◌, ◌++◌, length, get_or, map, take, max, Option, Some, None, unwrap_or, refl, sym, ap, subst, ◌∙◌, arith}
+use Rattle.std.proofs.lemmas.Option.{same_Some}
 use Rattle.std.specs.Prelude.{Contains}
 use Rattle.std.specs.BTreeMap.{get, BTreeMap, Updates}
 use Rattle.std.specs.Ordering.{is_eq, nat_cmp}
 use Rattle.std.specs.declared.cmp.Ordering.TheVariants.{Less, Equal, Greater}
-use Rattle.std.proofs.lemmas.Bool.{cases_eq, cases_lt, ne_eqb}
+use Rattle.std.proofs.lemmas.Bool.{cases_eq, cases_lt, ne_eqb, and_right}
 use Rattle.std.proofs.lemmas.List.{get_or_append_left, get_or_default, get_or_push, get_or-map, length-append, length-map, map_push, take_all, take_more}
 use Rattle.std.proofs.lemmas.List.Elements.{Contains-append_cases, Contains-append_left, Contains-append_right, Contains-get_or}
 use Rattle.vs_entries.specs.declared.entry.Entry.{Entry}
@@ -24,10 +25,6 @@ with_true : (flag b : Bool) → b ≡ true → (flag && b) ≡ flag
 with_true true b is = is
 with_true false b is = refl
 
-with_false : (flag b : Bool) → b ≡ false → (flag && b) ≡ false
-with_false true b is = is
-with_false false b is = refl
-
 pub same_test : (a b c d : ℕ) → (a ≡ b → c ≡ d) → (c ≡ d → a ≡ b) → (a == b) ≡ (c == d)
 same_test a b c d on back = elim (cases_eq a b) [
   | inl e ↦ let one : (a == b) ≡ true = grind (arith) in let f = on e in let two : (c == d) ≡ true = grind (arith) in one ∙ sym two
@@ -38,7 +35,7 @@ flagged_at : (flag : Bool) (es : List file.Entry) (i : ℕ) (d : Entry) (e : fil
 flagged_at flag [] i d e lt = absurd (omega (arith, lt))
 flagged_at flag (x ∷ []) zero d e lt = ap (λ f. taken f x) (sym (with_true flag true refl))
 flagged_at flag (x ∷ []) (suc i) d e lt = absurd (omega (arith, lt))
-flagged_at flag (x ∷ y ∷ es) zero d e lt = ap (λ f. taken f x) (sym (with_false flag (0 + 1 == length (x ∷ y ∷ es)) (ne_eqb (0 + 1) (length (x ∷ y ∷ es)) (λ z. omega (arith, z)))))
+flagged_at flag (x ∷ y ∷ es) zero d e lt = ap (λ f. taken f x) (sym (and_right flag (0 + 1 == length (x ∷ y ∷ es)) (ne_eqb (0 + 1) (length (x ∷ y ∷ es)) (λ z. omega (arith, z)))))
 flagged_at flag (x ∷ y ∷ es) (suc i) d e lt =
     flagged_at flag (y ∷ es) i d e (omega (arith, lt))
     ∙ ap (λ b. taken (flag && b) (get_or (y ∷ es) i e)) (same_test (i + 1) (length (y ∷ es)) (suc i + 1) (length (x ∷ y ∷ es)) (λ z. omega (arith, z)) (λ z. omega (arith, z)))
@@ -92,9 +89,6 @@ is_other true b e = refl
 is_other false true e = absurd cc
 is_other false false e = refl
 
-pub some_is : (a b : ℕ) → Some a ≡ Some b → a ≡ b
-some_is a b e = cc
-
 module _ (changes : List file.Change) (own : file.Change) (savers next : BTreeMap ℕ ℕ) (old : AreSavers changes savers) where
   abbrev greater : ℕ
   greater = max (unwrap_or (get nat_cmp savers own.save) 0) own.number
@@ -123,7 +117,7 @@ module _ (changes : List file.Change) (own : file.Change) (savers next : BTreeMa
   held_more u save n is = elim (cases_eq own.save save) [
     | inl same ↦
         let h = held_now (get nat_cmp savers own.save) refl in
-        let this : greater ≡ n = some_is greater n (sym u.1 ∙ (ap (λ s. get nat_cmp next s) same ∙ is)) in
+        let this : greater ≡ n = same_Some greater n (sym u.1 ∙ (ap (λ s. get nat_cmp next s) same ∙ is)) in
         (h.0, h.1, h.2 ∙ same, h.3 ∙ this)
     | inr apart ↦
         let h = old.held save n (sym (u.2 save (is_other _ (eqb own.save save) (ne_eqb own.save save apart))) ∙ is) in
@@ -150,7 +144,7 @@ save_kept changes savers change n all is same = inl (
   refl,
   λ some other in_list shared.
       let f = all.found other in_list in
-      let one : f.0 ≡ n = some_is f.0 n (sym f.1 ∙ (ap (λ s. get nat_cmp savers s) shared ∙ is)) in
+      let one : f.0 ≡ n = same_Some f.0 n (sym f.1 ∙ (ap (λ s. get nat_cmp savers s) shared ∙ is)) in
       omega (arith, one, f.2, same),
 )
 

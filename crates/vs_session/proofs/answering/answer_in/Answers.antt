@@ -1,9 +1,10 @@
 use Rattle.std.proofs.Common.{IsTrue, sym, ap, subst, max}
+use Rattle.std.proofs.lemmas.Result.{IfOk-weaker}
 use Rattle.vs_pair.specs.Pair.{shown_in}
 use Rattle.vs_tree.specs.declared.tree.LineTree.{LineTree}
 use Rattle.vs_undo.specs.History.{FitsCount, IsHistory}
 use Rattle.vs_paged.specs.Pages.{IsBounded}
-use Rattle.vs_session.proofs.StoreLemmas.{if_ok_as, present_fits, committed_fits, present_filled, committed_filled, same_text, told_text, paged_text, bounded_tree, stands_paged, stands_undo, stands_back, keeps_back, ready_back, cause_back}
+use Rattle.vs_session.proofs.StoreLemmas.{present_fits, committed_fits, present_filled, committed_filled, same_text, told_text, paged_text, bounded_tree, stands_paged, stands_undo, stands_back, keeps_back, ready_back, cause_back}
 use Rattle.vs_paged.proofs.SyncLemmas.{on_err_as}
 use Rattle.vs_machine.specs.Answers.{meaning_at}
 use Rattle.vs_session.specs.Work.{most_in}
@@ -22,13 +23,13 @@ answer-requires-clause-ready g c =
 
 pub returns-clause-reply : goal.returns-clause-reply
 returns-clause-reply g c =
-    if_ok_as c.answer.result _ _ (λ answered ans told state instruction stands cursor is. (ans state instruction (record { text = told_text _ _ _ _ told stands.text; history = stands.history; cursor = cursor }) is).reply) c.answer.ensures.answers
+    IfOk-weaker c.answer.result _ _ (λ answered ans told state instruction stands cursor is. (ans state instruction (record { text = told_text _ _ _ _ told stands.text; history = stands.history; cursor = cursor }) is).reply) c.answer.ensures.answers
 
 pub returns-clause-state : goal.returns-clause-state
 returns-clause-state g c =
     let ready = c.answer.ensures.atomic.ready in
     let stays = c.answer.ensures.atomic.stays in
-    if_ok_as c.answer.result _ _
+    IfOk-weaker c.answer.result _ _
     (λ answered ans told state instruction stands cursor is.
     let after = (ans state instruction (record { text = told_text _ _ _ _ told stands.text; history = stands.history; cursor = cursor }) is).after in
     (stands_back _ _ _ _ _ _ _ _ (c.pair-1.given.1 (sym stays.1.0)) (ap (λ (h : g.row.F.Denot). (g.F.World.scene h).folder) (c.host-1.given.1 (sym stays.1.1))) (c.tree-1.given.1 (sym stays.0)) (record { text = paged_text _ _ _ _ ready.committed ready.valid.3 ready.valid.4 after.text; history = after.history }), after.cursor))
@@ -36,7 +37,7 @@ returns-clause-state g c =
 
 pub returns-clause-oldest : goal.returns-clause-oldest
 returns-clause-oldest g c =
-    if_ok_as c.answer.result _ _ (λ answered ans told state instruction stands cursor is. (ans state instruction (record { text = told_text _ _ _ _ told stands.text; history = stands.history; cursor = cursor }) is).oldest) c.answer.ensures.answers
+    IfOk-weaker c.answer.result _ _ (λ answered ans told state instruction stands cursor is. (ans state instruction (record { text = told_text _ _ _ _ told stands.text; history = stands.history; cursor = cursor }) is).oldest) c.answer.ensures.answers
 
 pub returns-clause-err : goal.returns-clause-err
 returns-clause-err g c =
@@ -63,7 +64,7 @@ returns-clause-kept g c =
 pub returns-clause-works : goal.returns-clause-works
 returns-clause-works g c =
     let stays = c.answer.ensures.atomic.stays in
-    if_ok_as c.answer.result _ _
+    IfOk-weaker c.answer.result _ _
     (λ answered ans told state instruction stands cursor is.
     works_back g.F.World.tells.folder state (meaning_at state instruction) (most_in c.args.tree.now) c.args.pair.now.pages _ c.answer.new.store.pages.pair.now (c.pair-1.given.1 (sym stays.1.0)) told
     (ans state instruction (record { text = told_text _ _ _ _ told stands.text; history = stands.history; cursor = cursor }) is).works)

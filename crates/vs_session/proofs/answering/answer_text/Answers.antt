@@ -1,7 +1,8 @@
 use Rattle.std.proofs.Common.{◌≤◌, sym, subst}
+use Rattle.std.proofs.lemmas.Result.{IfOk-weaker}
 use Rattle.vs_pair.specs.declared.files.SwapFiles.{SwapFiles}
 use Rattle.vs_paged.proofs.SyncLemmas.{on_err_as}
-use Rattle.vs_session.proofs.StoreLemmas.{if_ok_as, fits_ready, state_left}
+use Rattle.vs_session.proofs.StoreLemmas.{fits_ready, state_left}
 use Rattle.vs_session.proofs.answering.answer_text.Goals as goal
 
 pub answer_in-requires-clause-lent : goal.answer_in-requires-clause-lent
@@ -20,12 +21,12 @@ invariant_of-text g c = record {
 
 pub returns-clause-reply : goal.returns-clause-reply
 returns-clause-reply g c =
-    if_ok_as c.answer_in.result _ _ (λ answered reply told state syncs instruction fits cursor is. reply told state instruction (record { text = fits.text.pages; history = fits.history }) cursor is) c.answer_in.ensures.reply
+    IfOk-weaker c.answer_in.result _ _ (λ answered reply told state syncs instruction fits cursor is. reply told state instruction (record { text = fits.text.pages; history = fits.history }) cursor is) c.answer_in.ensures.reply
 
 pub returns-clause-state : goal.returns-clause-state
 returns-clause-state g c =
     let kept = c.answer_in.ensures.kept in
-    if_ok_as c.answer_in.result _ _
+    IfOk-weaker c.answer_in.result _ _
     (λ answered after told state syncs instruction fits cursor is.
     let now = after told state instruction (record { text = fits.text.pages; history = fits.history }) cursor is in
     (state_left _ c.args.text.now _ c.args.history.now _ _ _ state _ syncs told kept.keeps (kept.ready told) fits now.0, now.1))
@@ -33,7 +34,7 @@ returns-clause-state g c =
 
 pub returns-clause-oldest : goal.returns-clause-oldest
 returns-clause-oldest g c =
-    if_ok_as c.answer_in.result _ _ (λ answered oldest told state syncs instruction fits cursor is. oldest told state instruction (record { text = fits.text.pages; history = fits.history }) cursor is) c.answer_in.ensures.oldest
+    IfOk-weaker c.answer_in.result _ _ (λ answered oldest told state syncs instruction fits cursor is. oldest told state instruction (record { text = fits.text.pages; history = fits.history }) cursor is) c.answer_in.ensures.oldest
 
 pub returns-clause-err : goal.returns-clause-err
 returns-clause-err g c =
@@ -45,7 +46,7 @@ returns-clause-err g c =
 
 pub returns-clause-works : goal.returns-clause-works
 returns-clause-works g c =
-    if_ok_as c.answer_in.result _ _ (λ answered works told state syncs instruction fits cursor is. works told state instruction (record { text = fits.text.pages; history = fits.history }) cursor is) c.answer_in.ensures.works
+    IfOk-weaker c.answer_in.result _ _ (λ answered works told state syncs instruction fits cursor is. works told state instruction (record { text = fits.text.pages; history = fits.history }) cursor is) c.answer_in.ensures.works
 
 pub returns-clause-idle : goal.returns-clause-idle
 returns-clause-idle g c = c.answer_in.ensures.idle

@@ -1,10 +1,11 @@
 use Rattle.std.proofs.Common.{IsTrue, sym, ap, subst, max, ◌∙◌}
+use Rattle.std.proofs.lemmas.Result.{IfOk-weaker}
 use Rattle.vs_pair.specs.Pair.{shown_in}
 use Rattle.vs_tree.specs.declared.tree.LineTree.{LineTree}
 use Rattle.vs_undo.specs.History.{FitsCount}
 use Rattle.vs_paged.specs.Pages.{IsBounded}
 use Rattle.vs_session.proofs.Bindings.{history_there, if_err_as, if_ok_two}
-use Rattle.vs_session.proofs.StoreLemmas.{if_ok_as, present_fits, committed_fits, present_filled, committed_filled, same_text, told_text, keeps_back, ready_back, cause_back}
+use Rattle.vs_session.proofs.StoreLemmas.{present_fits, committed_fits, present_filled, committed_filled, same_text, told_text, keeps_back, ready_back, cause_back}
 use Rattle.vs_session.proofs.SummaryLemmas.{bounded_stays, paged_stays}
 use Rattle.vs_session.proofs.WorkLemmas.{unworked_back}
 use Rattle.vs_session.proofs.binding.bind_in.Goals as goal
@@ -27,7 +28,7 @@ returns-clause-refused g c = if_err_as c.bind.result _ _ (λ error refused told 
 
 pub returns-clause-counts : goal.returns-clause-counts
 returns-clause-counts g c =
-    if_ok_as c.bind.result _ _ (λ undo ready. subst (λ (t : LineTree). FitsCount undo (max 1 t.present.lines)) (sym (c.tree-1.given.1 (sym c.bind.ensures.kept.stays.0))) ready.counts) c.bind.ensures.ready
+    IfOk-weaker c.bind.result _ _ (λ undo ready. subst (λ (t : LineTree). FitsCount undo (max 1 t.present.lines)) (sym (c.tree-1.given.1 (sym c.bind.ensures.kept.stays.0))) ready.counts) c.bind.ensures.ready
 
 pub returns-clause-kept : goal.returns-clause-kept
 returns-clause-kept g c =

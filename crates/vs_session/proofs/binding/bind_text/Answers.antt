@@ -1,7 +1,8 @@
 use Rattle.std.proofs.Common.{◌≤◌, sym, subst}
+use Rattle.std.proofs.lemmas.Result.{IfOk-weaker}
 use Rattle.vs_pair.specs.declared.files.SwapFiles.{SwapFiles}
 use Rattle.vs_session.proofs.Bindings.{if_err_as}
-use Rattle.vs_session.proofs.StoreLemmas.{if_ok_as, fits_ready, fits_left}
+use Rattle.vs_session.proofs.StoreLemmas.{fits_ready, fits_left}
 use Rattle.vs_session.proofs.binding.bind_text.Goals as goal
 
 pub bind_in-requires-clause-lent : goal.bind_in-requires-clause-lent
@@ -18,7 +19,7 @@ invariant_of-text g c = record {
 }
 
 pub returns-clause-bound : goal.returns-clause-bound
-returns-clause-bound g c = if_ok_as c.bind_in.result _ _ (λ undo bound told lines syncs fits. bound told lines fits.pages) c.bind_in.ensures.bound
+returns-clause-bound g c = IfOk-weaker c.bind_in.result _ _ (λ undo bound told lines syncs fits. bound told lines fits.pages) c.bind_in.ensures.bound
 
 pub returns-clause-refused : goal.returns-clause-refused
 returns-clause-refused g c = if_err_as c.bind_in.result _ _ (λ error refused told lines syncs fits. refused told lines fits.pages) c.bind_in.ensures.refused

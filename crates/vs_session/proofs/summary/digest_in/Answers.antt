@@ -1,8 +1,9 @@
 use Rattle.std.proofs.Common.{IsTrue, sym, ap, subst, ◌∙◌}
+use Rattle.std.proofs.lemmas.Result.{IfOk-weaker}
 use Rattle.vs_pair.specs.Pair.{shown_in}
 use Rattle.vs_tree.specs.declared.tree.LineTree.{LineTree}
 use Rattle.vs_paged.specs.Pages.{IsBounded}
-use Rattle.vs_session.proofs.StoreLemmas.{if_ok_as, present_fits, committed_fits, present_filled, committed_filled, told_text, keeps_back, ready_back, cause_back}
+use Rattle.vs_session.proofs.StoreLemmas.{present_fits, committed_fits, present_filled, committed_filled, told_text, keeps_back, ready_back, cause_back}
 use Rattle.vs_session.proofs.SummaryLemmas.{bounded_stays, paged_stays}
 use Rattle.vs_session.proofs.summary.digest_in.Goals as goal
 
@@ -11,7 +12,7 @@ digest-requires g c = (c.requires.lent.ready, present_fits _ _ _ c.requires.lent
 
 pub returns-clause-digest : goal.returns-clause-digest
 returns-clause-digest g c =
-    if_ok_as c.digest.result _ _ (λ digest is told text paged. is text (told_text _ _ _ _ told paged)) c.digest.ensures.digest
+    IfOk-weaker c.digest.result _ _ (λ digest is told text paged. is text (told_text _ _ _ _ told paged)) c.digest.ensures.digest
 
 pub returns-clause-kept : goal.returns-clause-kept
 returns-clause-kept g c =

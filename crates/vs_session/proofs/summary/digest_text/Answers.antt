@@ -1,6 +1,7 @@
 use Rattle.std.proofs.Common.{◌≤◌, sym, subst}
+use Rattle.std.proofs.lemmas.Result.{IfOk-weaker}
 use Rattle.vs_pair.specs.declared.files.SwapFiles.{SwapFiles}
-use Rattle.vs_session.proofs.StoreLemmas.{if_ok_as, fits_ready, fits_left}
+use Rattle.vs_session.proofs.StoreLemmas.{fits_ready, fits_left}
 use Rattle.vs_session.proofs.summary.digest_text.Goals as goal
 
 pub digest_in-requires : goal.digest_in-requires
@@ -20,7 +21,7 @@ invariant_of-text g c = record {
 
 pub returns-clause-digest : goal.returns-clause-digest
 returns-clause-digest g c =
-    if_ok_as c.digest_in.result _ _ (λ digest is told lines syncs fits. is told lines fits.pages) c.digest_in.ensures.digest
+    IfOk-weaker c.digest_in.result _ _ (λ digest is told lines syncs fits. is told lines fits.pages) c.digest_in.ensures.digest
 
 pub returns-clause-kept : goal.returns-clause-kept
 returns-clause-kept g c =

@@ -1,9 +1,10 @@
 use Rattle.std.proofs.Common.{IsTrue, sym, ap, subst, max}
+use Rattle.std.proofs.lemmas.Result.{IfOk-weaker}
 use Rattle.vs_pair.specs.Pair.{shown_in}
 use Rattle.vs_tree.specs.declared.tree.LineTree.{LineTree}
 use Rattle.vs_undo.specs.History.{FitsCount}
 use Rattle.vs_paged.specs.Pages.{IsBounded}
-use Rattle.vs_session.proofs.StoreLemmas.{if_ok_as, present_fits, committed_fits, present_filled, committed_filled, same_text, told_text, paged_text, bounded_tree, stands_paged, stands_undo, stands_back, keeps_back, ready_back, cause_back, kept_same}
+use Rattle.vs_session.proofs.StoreLemmas.{present_fits, committed_fits, present_filled, committed_filled, same_text, told_text, paged_text, bounded_tree, stands_paged, stands_undo, stands_back, keeps_back, ready_back, cause_back, kept_same}
 use Rattle.vs_session.proofs.WorkLemmas.{unworked_back}
 use Rattle.vs_session.proofs.unbinding.unbind_in.Goals as goal
 
@@ -19,7 +20,7 @@ unbind-requires g c =
 
 pub returns-clause-made : goal.returns-clause-made
 returns-clause-made g c =
-    if_ok_as c.unbind.result _ _ (λ contents made told state stands. made state.text state.history (told_text _ _ _ _ told stands.text) stands.history) c.unbind.ensures.made
+    IfOk-weaker c.unbind.result _ _ (λ contents made told state stands. made state.text state.history (told_text _ _ _ _ told stands.text) stands.history) c.unbind.ensures.made
 
 pub returns-clause-stands : goal.returns-clause-stands
 returns-clause-stands g c told state stands =

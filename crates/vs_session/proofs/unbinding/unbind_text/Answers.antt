@@ -1,6 +1,7 @@
 use Rattle.std.proofs.Common.{◌≤◌, sym, subst}
+use Rattle.std.proofs.lemmas.Result.{IfOk-weaker}
 use Rattle.vs_pair.specs.declared.files.SwapFiles.{SwapFiles}
-use Rattle.vs_session.proofs.StoreLemmas.{if_ok_as, fits_ready, state_left}
+use Rattle.vs_session.proofs.StoreLemmas.{fits_ready, state_left}
 use Rattle.vs_session.proofs.unbinding.unbind_text.Goals as goal
 
 pub unbind_in-requires : goal.unbind_in-requires
@@ -21,7 +22,7 @@ invariant_of-text g c = record {
 
 pub returns-clause-made : goal.returns-clause-made
 returns-clause-made g c =
-    if_ok_as c.unbind_in.result _ _ (λ contents made told state syncs fits. made told state (record { text = fits.text.pages; history = fits.history })) c.unbind_in.ensures.made
+    IfOk-weaker c.unbind_in.result _ _ (λ contents made told state syncs fits. made told state (record { text = fits.text.pages; history = fits.history })) c.unbind_in.ensures.made
 
 pub returns-clause-fits : goal.returns-clause-fits
 returns-clause-fits g c told state syncs fits =

@@ -1,7 +1,7 @@
 use Rattle.std.proofs.Common.{◌≡◌, ◌∙◌, List, ℕ, Bool, length, reverse, arith, ap, refl, sym, subst}
+use Rattle.std.proofs.lemmas.Result.{on_ok_weaker}
 use Rattle.vs_host.specs.World.{content_of}
 use Rattle.vs_damaged.specs.Finds.{ShowsBlock, found_in, target_of}
-use Rattle.vs_damaged.proofs.FindLaws.{on_ok}
 use Rattle.vs_recover.specs.declared.walk.Walk.{Walk}
 use Rattle.vs_recover.specs.Marks.{free_in, used_in}
 use Rattle.vs_recover.proofs.ReadingLaws.{no_memory, reads_none, reads_within}
@@ -9,7 +9,7 @@ use Rattle.vs_recover.proofs.WalkedLaws.{are_barred, are_free, barred_nowhere, d
 use Rattle.vs_recover.proofs.walk.Walk.visit.Goals as goal
 
 pub returns-then-mark-clause-visits : goal.returns-then-mark-clause-visits
-returns-then-mark-clause-visits g c = on_ok c.open.result (λ shows d has taken before.
+returns-then-mark-clause-visits g c = on_ok_weaker c.open.result (λ shows d has taken before.
     let old : Walk = c.args.self.now in
     let new : Walk = c.open.new.self in
     let first : ℕ = c.in-Block.first in
@@ -38,7 +38,7 @@ pub returns-in_err-push_marker-in-Nothing-clause-reading : goal.returns-in_err-p
 returns-in_err-push_marker-in-Nothing-clause-reading g c = reads_none g.F.World.tells (no_memory _ c.from_residual-in_err-push_marker-in-Nothing.ensures.1)
 
 pub returns-in-Original-clause-visits : goal.returns-in-Original-clause-visits
-returns-in-Original-clause-visits g c = on_ok c.show_original.result (λ shows d has taken before.
+returns-in-Original-clause-visits g c = on_ok_weaker c.show_original.result (λ shows d has taken before.
     let old : Walk = c.args.self.now in
     let new : Walk = record c.args.self.now { shown = c.show_original.new.shown; original = c.show_original.new.original } in
     visits_original d old new c.args.entry.now taken c.in-Original.before c.in-Original.count (content_of (g.F.World.scene c.args.host.now) c.args.name.now) (sym c.target_of.ensures ∙ c.in-Original.is) has.original refl
