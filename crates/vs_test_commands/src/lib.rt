@@ -1,25 +1,12 @@
-//! Tests of command lines and scripts, of where commands work and of what they do to a text, and of the
-//! machine.
+//! Tests of calls that no script reaches: names, commands over stores that fail, and scripts in pieces.
 #![tactic(auto)]
 
 #[cfg(test)]
 mod commands;
 #[cfg(test)]
-mod editor;
-#[cfg(test)]
 mod failing;
 #[cfg(test)]
-mod globals;
-#[cfg(test)]
-mod hostile;
-#[cfg(test)]
-mod limits;
-#[cfg(test)]
-mod machine;
-#[cfg(test)]
-mod parsing;
-#[cfg(test)]
-mod places;
+mod names;
 #[cfg(test)]
 mod plans;
 #[cfg(test)]

@@ -83,19 +83,22 @@ pub(crate) fn run<S: LineStore>(
     carry_out(alloc, store, &command, &block, cursor)
 }
 
-/// Puts lines after those of a store.
+/// Puts the lines of a file after those of a store.
 pub(crate) fn put<S: LineStore>(
     rt: &impl Abort,
     alloc: Global,
     store: &mut S,
-    lines: &[Line],
+    file: &[u8],
 ) -> Result<(), StoreErr>
     requires { S.valid store.old }
     ensures { S.valid store.new }
 {
+    let Ok((text, _)) = read_text(alloc, file) else {
+        return Err(StoreErr::NoMemory);
+    };
     let len = store.len();
-    if !allows_splice(store, len, 0, lines) {
+    if !allows_splice(store, len, 0, text.lines()) {
         panic!(rt; "the lines do not fit")
     }
-    store.splice(alloc, len, 0, lines)
+    store.splice(alloc, len, 0, text.lines())
 }

@@ -2,14 +2,11 @@
 ghost use Rattle.vs_host.specs.Untold.{never, no_folder};
 ghost use Rattle.std.specs.Prelude.{[], false};
 
-use std::alloc::Global;
-use std::test::Fail;
 use vs_host::{Failed, Script, World};
 
-/// Some bytes, a unit that is repeated, and other bytes, in pieces of at most this size. It tells nothing.
+/// A unit that is repeated, and other bytes, in pieces of at most this size. It tells nothing.
 #[derive(Drop)]
 pub struct Source {
-    pub front: Vec<u8>,
     pub unit: Vec<u8>,
     pub times: u64,
     pub tail: Vec<u8>,
@@ -50,31 +47,14 @@ fn from(bytes: &[u8], at: u64) -> &[u8] {
 }
 
 impl Source {
-    /// Bytes that are all there is.
-    pub(crate) fn of(alloc: Global, bytes: &[u8], piece: usize) -> Result<Source, Fail> {
-        Ok(Source {
-            front: Vec::from_slice(alloc, bytes)?,
-            unit: Vec::new(alloc),
-            times: 0,
-            tail: Vec::new(alloc),
-            piece,
-            at: 0,
-        })
-    }
-
     fn next(&self) -> &[u8] {
-        let front = self.front.len() as u64;
-        if self.at < front {
-            return from(&self.front, self.at);
-        }
-        let after = self.at - front;
         let size = self.unit.len() as u64;
-        if size > 0 && after / size < self.times {
-            return from(&self.unit, after % size);
+        if size > 0 && self.at / size < self.times {
+            return from(&self.unit, self.at % size);
         }
         from(
             &self.tail,
-            after.saturating_sub(size.saturating_mul(self.times)),
+            self.at.saturating_sub(size.saturating_mul(self.times)),
         )
     }
 }

@@ -1,7 +1,6 @@
 -- A commit makes the text the committed one.
 use Rattle.std.proofs.Common.{sym, subst, ◌∙◌}
-use Rattle.vs_undo.specs.Moves.{IsReady}
-use Rattle.vs_test_commands.proofs.editor.open.Goals as goal
+use Rattle.vs_test_commands.proofs.failing.open.Goals as goal
 
 pub returns : goal.returns
 returns g c =
